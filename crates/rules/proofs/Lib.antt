@@ -1,0 +1,4 @@
+-- What is computed on the definitions.
+pub mod Case
+pub mod Document
+pub mod Compared

@@ -1,0 +1,5 @@
+-- Document 01 as definitions that compute, in its order.
+pub mod Elimination
+pub mod Inequalities
+pub mod Outcomes
+pub mod Checker
