@@ -1,0 +1,65 @@
+-- What the multiplier checker's yes promises: the equations have no solution in whole numbers.
+use mathlib.Core.Path.{_≡_, refl, sym, ap, ap₂, _∙_, subst}
+use mathlib.Core.Bool.{true, not}
+use mathlib.Core.List.{List, [], _∷_}
+use Prim.Native.Nat.{ℕ, suc}
+use native.Mathlib.Numerals.{add-one}
+use borrow.Author.Tests.{not-true}
+use lib.ListN.{length, take, length-append, length-replicate}
+use lib.Seq.{getD-at}
+use lib.IntN.{ℤ, pos, _+ℤ_, _*ℤ_}
+use Rattle.whole.specs.Gcd.{divides}
+use Rattle.whole.proofs.Divides.{_∣ℤ_, dvd-zero, divides-false}
+use Rattle.whole.proofs.Reify.{reify, ring}
+use Rattle.rows.specs.Row.{at, dot, values, zeros}
+use Rattle.rows.specs.Table.{Wide}
+use Rattle.rows.proofs.Algebra.{dot-zeros, dot-gathered, length-gathered}
+use Rattle.rows.proofs.Bounded.{and-left, and-right}
+use Rattle.rules.specs.Checker.{combined, refutes, dividesAll}
+use Rattle.promises.specs.Meaning.{point, Satisfies}
+use Rattle.promises.specs.Solutions.{Unsolvable}
+use Rattle.promises.proofs.Values.{divides-constant, all-divided}
+
+-- ---- a point: n numbers and then 1
+
+pub length-point : (n : ℕ) (x : List ℤ) → length x ≡ n → length (point x) ≡ suc n
+length-point n x h = length-append x (pos 1 ∷ []) ∙ add-one (length x) ∙ ap suc h
+
+pub point-end : (n : ℕ) (x : List ℤ) → length x ≡ n → at (point x) n ≡ pos 1
+point-end n x h = getD-at x (pos 1) [] (pos 0) n h
+
+-- at a solution every combination of the equations is 0
+pub dot-satisfied : (row x : List ℤ) (equations : List (List ℤ)) → Satisfies x equations → dot row (values equations (point x)) ≡ pos 0
+unfolding dot values
+dot-satisfied [] x equations s = refl
+dot-satisfied (a ∷ row) x [] s = refl
+dot-satisfied (a ∷ row) x (equation ∷ equations) s =
+    ap₂ (λ u v. a *ℤ u +ℤ v) (s .0) (dot-satisfied row x equations (s .1)) ∙ ring (a ∷ []) (search reify) (search reify) refl
+
+-- ---- the combined row
+
+module _ (n : ℕ) (multipliers : List ℤ) (equations : List (List ℤ)) where
+  pub length-combined : length (combined n multipliers equations) ≡ suc n
+  unfolding combined zeros
+  length-combined = length-gathered (zeros (suc n)) multipliers equations ∙ length-replicate (suc n) (pos 0)
+
+  pub dot-combined : Wide (suc n) equations → (x : List ℤ) → dot (combined n multipliers equations) x ≡ dot multipliers (values equations x)
+  unfolding combined zeros
+  dot-combined w x =
+      dot-gathered (zeros (suc n)) multipliers equations x (subst (λ width. Wide width equations) (sym (length-replicate (suc n) (pos 0))) w)
+      ∙ ap (λ z. z +ℤ dot multipliers (values equations x)) (dot-zeros (suc n) x)
+      ∙ ring (dot multipliers (values equations x) ∷ []) (search reify) (search reify) refl
+
+-- d divides the combined coefficients, so at a solution, where the combined row is 0, the constant too
+pub checked : (n : ℕ) (multipliers : List ℤ) (d : ℕ) (equations : List (List ℤ)) → Wide (suc n) equations
+    → refutes n multipliers d equations ≡ true → Unsolvable n equations
+unfolding refutes
+checked n multipliers d equations w e x h s =
+    divides-false (not-true (divides d (at row n)) (and-right (dividesAll d (take n row)) (not (divides d (at row n))) e))
+    (divides-constant d n row (point x) (length-combined n multipliers equations) (length-point n x h)
+    (all-divided d (take n row) (and-left (dividesAll d (take n row)) (not (divides d (at row n))) e))
+    (point-end n x h)
+    (subst (λ z. d ∣ℤ z) (sym (dot-combined n multipliers equations w (point x) ∙ dot-satisfied multipliers x equations s)) dvd-zero))
+  where
+    row : List ℤ
+    row = combined n multipliers equations

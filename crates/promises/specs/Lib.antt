@@ -1,0 +1,5 @@
+-- What document 01 promises, as statements; the theorems stand under proofs/.
+pub mod Meaning
+pub mod Solutions
+pub mod Rows
+pub mod Listed

@@ -1,0 +1,18 @@
+-- What a run that finishes promises of an inequality.
+use mathlib.Core.Path.{_≡_}
+use mathlib.Core.Logic.{_↔_}
+use mathlib.Core.List.{List}
+use Prim.Native.Nat.{ℕ}
+use lib.ListN.{length}
+use lib.IntN.{ℤ}
+use Rattle.rules.specs.Elimination.{State}
+use Rattle.rules.specs.Inequalities.{sums, usedBy, tightenedRow}
+use Rattle.promises.specs.Meaning.{Meets, Choice, substituted, parameters, SatisfiesSet}
+
+-- the run over these equations ended in state s
+pub record Tightened (n m : ℕ) (equations : List (List ℤ)) (s : State) (inequality : List ℤ) : Type 0 where
+  -- "a tightened row holds exactly when its inequality does"
+  pub exactly : (y : List ℤ) → Choice n s y → Meets (substituted s y) inequality ↔ Meets y (tightenedRow n s inequality)
+  -- "whole numbers that satisfy the inequality and the used equations alone satisfy the tightened row, taken at the way back"
+  pub used : (x : List ℤ) → length x ≡ n → Meets x inequality → SatisfiesSet x equations (usedBy m s (sums n (s .substitution) inequality))
+      → Meets (parameters s x) (tightenedRow n s inequality)
