@@ -11,4 +11,15 @@ pub mod Conflict
 pub mod Begins
 pub mod Runs
 pub mod Solved
+pub mod Tight
+pub mod Used
+pub mod Tightened
+pub mod Pairs
+pub mod AnswersLong
+pub mod AnswersWithin
+pub mod AnswersFound
+pub mod AnswersYes
+pub mod Answers
 pub mod TooLarge
+pub mod BoundLeads
+pub mod Bound

@@ -2,4 +2,5 @@
 pub mod Meaning
 pub mod Solutions
 pub mod Rows
+pub mod Answers
 pub mod Listed

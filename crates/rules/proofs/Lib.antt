@@ -2,3 +2,5 @@
 pub mod Case
 pub mod Document
 pub mod Compared
+pub mod Within
+pub mod RowInHand
