@@ -23,3 +23,5 @@ pub mod Answers
 pub mod TooLarge
 pub mod BoundLeads
 pub mod Bound
+pub mod YesMeans
+pub mod OneAnswer

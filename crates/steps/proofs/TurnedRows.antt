@@ -1,0 +1,125 @@
+-- Row k of the way back: the rows gathered and then q's constant added at column n are the rows and 1 at column n gathered together, and
+-- how far from 0 the numbers get on the way.
+use mathlib.Core.Path.{_≡_, refl, sym, ap, ap₂, _∙_}
+use mathlib.Core.Bool.{true}
+use mathlib.Core.List.{List, [], _∷_, _++_}
+use Prim.Native.Nat.{ℕ, zero, suc, _+_, _*_, _≤_, _<_}
+use native.Mathlib.Nat.{suc-mul, mul-le-mul-right}
+use native.Mathlib.Omega.{arith}
+use lib.ListN.{length, getD, take, set, replicate, length-take}
+use lib.Seq.{take-all, take-suc, getD-take, take-set-lt}
+use lib.IntN.{ℤ, pos, negℤ, natAbs, _+ℤ_}
+use mir.Syntax.{w64}
+use mir.Val.{toZ, ofZ, SFits}
+use Rattle.whole.specs.Limit.{W}
+use Rattle.whole.proofs.Integers.{natAbs-neg}
+use Rattle.whole.proofs.Reify.{reify, ring}
+use Rattle.whole.proofs.Steps.{steps, read-by, fits-by}
+use Rattle.rows.specs.Row.{at, zeros, unitRow, less, gathered, bounded, allWithin}
+use Rattle.rows.specs.Table.{rowsOf, flat, rowAt}
+use Rattle.rows.proofs.Bounded.{and-left, and-right, bounded-append, bounded-at, bounded-take, bounded-drop, bounded-less, bounded-mono}
+use Rattle.rows.proofs.Algebra.{length-gathered}
+use Rattle.rows.proofs.TableLaws.{length-rowAt, length-rowsOf, flat-rowsOf, row-of}
+use Rattle.tables.proofs.Multiples.{within-row}
+
+-- ---- the last of the rows that are gathered
+gathered-last : (row cs : List ℤ) (rows : List (List ℤ)) (c : ℤ) (other : List ℤ) → length cs ≡ length rows
+    → gathered row (cs ++ c ∷ []) (rows ++ other ∷ []) ≡ less (gathered row cs rows) (negℤ c) other
+unfolding gathered
+gathered-last row [] [] c other e = refl
+gathered-last row [] (r ∷ rows) c other e = absurd (omega arith)
+gathered-last row (x ∷ cs) [] c other e = absurd (omega arith)
+gathered-last row (x ∷ cs) (r ∷ rows) c other e = gathered-last (less row (negℤ x) r) cs rows c other (omega arith)
+
+-- ---- -c times the row that has 1 at column n, else 0, taken from a row: c is added at column n
+less-zeros : (row : List ℤ) (q : ℤ) (width : ℕ) → less row q (replicate width (pos 0)) ≡ row
+unfolding less
+less-zeros [] q width = refl
+less-zeros (a ∷ row) q zero = refl
+less-zeros (a ∷ row) q (suc width) = ap₂ _∷_ (ring (a ∷ q ∷ []) (search reify) (search reify) refl) (less-zeros row q width)
+
+less-set : (row : List ℤ) (c : ℤ) (width n : ℕ) → n < width → n < length row
+    → less row (negℤ c) (set (replicate width (pos 0)) n (pos 1)) ≡ set row n (at row n +ℤ c)
+unfolding less
+less-set [] c width n h l = absurd (omega arith)
+less-set (a ∷ row) c zero n h l = absurd (omega arith)
+less-set (a ∷ row) c (suc width) zero h l = ap₂ _∷_ (ring (a ∷ c ∷ []) (search reify) (search reify) refl) (less-zeros row (negℤ c) width)
+less-set (a ∷ row) c (suc width) (suc n) h l =
+    ap₂ _∷_ (ring (a ∷ c ∷ []) (search reify) (search reify) refl) (less-set row c width n (omega arith) (omega arith))
+
+less-unit : (row : List ℤ) (c : ℤ) (width n : ℕ) → n < width → n < length row → less row (negℤ c) (unitRow width n) ≡ set row n (at row n +ℤ c)
+unfolding unitRow zeros
+less-unit row c width n h l = less-set row c width n h l
+
+-- ---- each row that is gathered adds at most the product of the bounds
+bounded-gathered : (A C B : ℕ) (row cs : List ℤ) (rows : List (List ℤ)) → bounded A row ≡ true → bounded C cs ≡ true
+    → bounded B (flat rows) ≡ true → bounded (A + length cs * (C * B)) (gathered row cs rows) ≡ true
+unfolding gathered flat
+bounded-gathered A C B row [] rows e f g = bounded-mono A (A + 0 * (C * B)) row (omega arith) e
+bounded-gathered A C B row (c ∷ cs) [] e f g = bounded-mono A (A + suc (length cs) * (C * B)) row (omega arith) e
+bounded-gathered A C B row (c ∷ cs) (r ∷ rows) e f g =
+    let both = sym (bounded-append B r (flat rows)) ∙ g in
+    let small : natAbs (negℤ c) ≤ C = omega (arith, natAbs-neg c, bounded-at C (c ∷ cs) 0 f) in
+    let rest : bounded C cs ≡ true = bounded-drop C 1 (c ∷ cs) f in
+    let step = bounded-less A C B row (negℤ c) r e small (and-left (bounded B r) (bounded B (flat rows)) both) in
+    let more = bounded-gathered (A + C * B) C B (less row (negℤ c) r) cs rows step rest (and-right (bounded B r) (bounded B (flat rows)) both) in
+    bounded-mono (A + C * B + length cs * (C * B)) (A + suc (length cs) * (C * B)) (gathered row (c ∷ cs) (r ∷ rows))
+    (omega (arith, suc-mul (length cs) (C * B))) more
+
+-- ---- row k of the way back of n rows, without q's constant and with it
+abbrev pub gain : ℕ → ℕ → List ℤ → List ℤ → List ℤ
+gain n k q t = gathered (rowAt (suc n) k t) (take n q) (rowsOf (suc n) n t)
+
+abbrev pub returned : ℕ → ℕ → List ℤ → List ℤ → List ℤ
+returned n k q t = gathered (getD (rowsOf (suc n) n t) k []) q (rowsOf (suc n) n t ++ unitRow (suc n) n ∷ [])
+
+module _ (n k : ℕ) (q t : List ℤ) (h : k < n) (e : length t ≡ n * suc n) where
+  pub length-gain : length (gain n k q t) ≡ suc n
+  length-gain = length-gathered (rowAt (suc n) k t) (take n q) (rowsOf (suc n) n t) ∙ length-rowAt (suc n) n k t h e
+
+  -- n rows at most 32, so that the sum with one more number is far below 2 ^ 63
+  gain-small : n ≤ 32 → allWithin t ≡ true → allWithin q ≡ true → natAbs (at (gain n k q t) n) ≤ W + 32 * (W * W)
+  gain-small l f g =
+      let few : length (take n q) ≤ 32 = simp length-take (omega arith) in
+      let rows = rowsOf (suc n) n t in
+      let all : allWithin (flat rows) ≡ true = ap allWithin (flat-rowsOf (suc n) n t e) ∙ f in
+      let sized = bounded-gathered W W W (rowAt (suc n) k t) (take n q) rows (within-row (suc n) k t f) (bounded-take W n q g) all in
+      omega (arith, bounded-at (W + length (take n q) * (W * W)) (gain n k q t) n sized, mul-le-mul-right (W * W) few)
+
+  -- the constant added at column n
+  returned-is : length q ≡ suc n → set (gain n k q t) n (at (gain n k q t) n +ℤ at q n) ≡ returned n k q t
+  returned-is l =
+      let rows = rowsOf (suc n) n t in
+      let whole : q ≡ take n q ++ at q n ∷ [] = sym (take-all (suc n) q (omega arith)) ∙ take-suc q n (pos 0) (omega arith) in
+      let many : length (take n q) ≡ length rows = rw (length-rowsOf (suc n) n t) (simp length-take (omega arith)) in
+      sym (less-unit (gain n k q t) (at q n) (suc n) n (omega arith) (omega (arith, length-gain)))
+      ∙ sym (gathered-last (rowAt (suc n) k t) (take n q) rows (at q n) (unitRow (suc n) n) many)
+      ∙ ap₂ (λ (row cs : List ℤ). gathered row cs (rows ++ unitRow (suc n) n ∷ [])) (sym (row-of (suc n) n k t h)) (sym whole)
+
+-- ---- the code's sum of two such numbers
+module _ (x y : ℤ) (h : natAbs x ≤ W + 32 * (W * W)) (l : natAbs y ≤ W) where
+  sum-fits : SFits w64 (toZ w64 (ofZ w64 x) +ℤ toZ w64 (ofZ w64 y))
+  sum-fits = fits-by (search steps) tt
+
+  sum-is : toZ w64 (ofZ w64 (toZ w64 (ofZ w64 x) +ℤ toZ w64 (ofZ w64 y))) ≡ x +ℤ y
+  sum-is = read-by (search steps) tt
+
+-- ---- a list l that starts with the row without the constant, and then with the one with it
+abbrev pub with-constant : ℕ → List ℤ → List ℤ → List ℤ
+with-constant n q l = set l n (toZ w64 (ofZ w64 (toZ w64 (ofZ w64 (at l n)) +ℤ toZ w64 (ofZ w64 (at q n)))))
+
+module _ (n k : ℕ) (q t l : List ℤ) (h : k < n) (e : length t ≡ n * suc n) (few : n ≤ 32) (f : allWithin t ≡ true) (g : allWithin q ≡ true)
+    (starts : take (n + 1) l ≡ gain n k q t) where
+  here : at l n ≡ at (gain n k q t) n
+  here = sym (getD-take (n + 1) l n (pos 0) (omega arith)) ∙ ap (λ (m : List ℤ). at m n) starts
+
+  here-small : natAbs (at l n) ≤ W + 32 * (W * W)
+  here-small = rw here (gain-small n k q t h e few f g)
+
+  pub constant-fits : SFits w64 (toZ w64 (ofZ w64 (at l n)) +ℤ toZ w64 (ofZ w64 (at q n)))
+  constant-fits = sum-fits (at l n) (at q n) here-small (bounded-at W q n g)
+
+  pub with-constant-is : length q ≡ suc n → take (n + 1) (with-constant n q l) ≡ returned n k q t
+  with-constant-is m =
+      rw (sum-is (at l n) (at q n) here-small (bounded-at W q n g), take-set-lt (n + 1) l n (at l n +ℤ at q n) (omega arith), starts, here)
+      (returned-is n k q t h e m)
