@@ -4,3 +4,4 @@ pub mod Document
 pub mod Compared
 pub mod Within
 pub mod RowInHand
+pub mod RunWithin

@@ -19,6 +19,7 @@ use Rattle.rows.proofs.Lists.{tail-at}
 use Rattle.rows.proofs.Bounded.{and-left, and-right}
 use Rattle.rules.specs.Inequalities.{tighten}
 
+-- ---- the row stays where the coefficients have no common divisor of 2 or more, or where it divides the constant: else it is new
 module _ (n : ℕ) (row : List ℤ) where
   abbrev g : ℕ
   g = gcdOf (take n row)
@@ -45,6 +46,7 @@ put-last n front row z e h =
     let one : drop n row ≡ at row n ∷ [] = tail-at row n (pos 0) (omega arith) ∙ ap (λ (l : List ℤ). at row n ∷ l) (drop-of-length-le row {i = n + 1} (omega arith)) in
     ap (λ (l : List ℤ). set (front ++ l) n z) one ∙ set-at front (at row n) [] z n e
 
+-- ---- a common divisor is not above the first number that is not 0
 pub gcd-within : (row : List ℤ) → allWithin row ≡ true → gcdOf row ≤ W
 unfolding gcdOf bounded
 gcd-within [] e = zero-le

@@ -26,7 +26,7 @@ length-sums n substitution row =
     length-gathered (set (replicate (suc n) (pos 0)) n (at row n)) (take n row) substitution
     ∙ length-set (replicate (suc n) (pos 0)) n (at row n) ∙ length-replicate (suc n) (pos 0)
 
--- what an answer shows that a row is worked where all its sums are within the limit
+-- a row is worked where all its sums are within the limit, and an answer that shows it so tells each of the parts
 abbrev shown : Bool → List ℤ → ℕ → RowWorked
 shown fits row x = elim fits [ true ↦ worked row x | false ↦ large ]
 
@@ -49,7 +49,7 @@ module _ (n m : ℕ) (s : State) (row : List ℤ) where
   row-large e = ap (λ (b : Bool). shown b (tightenedRow n s row) (usedBy m s all)) (sym e)
 
 -- ---- all rows
--- what an answer shows of them: the tables count where no row is too large
+-- what an answer shows of them: the tables count only where no row is too large
 abbrev told : RowsWorked → ℕ → RowsWorked
 told made bad = elim (eqb bad 0) [ true ↦ made | false ↦ firstLarge bad ]
 

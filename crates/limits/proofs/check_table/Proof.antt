@@ -1,3 +1,4 @@
+-- `limits::check_table` meets its contract: the first entry beyond the limit, in rows and columns from 1.
 use mathlib.Core.Path.{ap, ap₂, _∙_}
 use Prim.Native.Nat.{ℕ, _+_, _/_, _%_}
 use native.Mathlib.Nat.{div-le-self, mod-le}
@@ -12,27 +13,21 @@ use borrow.Author.Needs.{needs}
 use Rattle.limits.proofs.check_table.Statement.{statement}
 use Rattle.limits.proofs.check_table.Tie as tie
 
--- src/lib.rt:36:9
 first-beyond-requires : tie.Need-first-beyond-requires
 first-beyond-requires c κs = search needs
 
--- src/lib.rt:40:18
 div-t7 : tie.Need-div-t7
 div-t7 c = search needs
 
--- src/lib.rt:40:18
 add-t8 : tie.Need-add-t8
 add-t8 c = omega (arith, div-le-self (c .before .first-beyond .result) (c .before .before .args .w))
 
--- src/lib.rt:41:21
 rem-t9 : tie.Need-rem-t9
 rem-t9 c = search needs
 
--- src/lib.rt:41:21
 add-t10 : tie.Need-add-t10
 add-t10 c = omega (arith, mod-le (c .before .first-beyond .result) (c .before .before .args .w))
 
--- src/lib.rt:38:9
 returns : tie.Need-returns
 unfolding badEntry
 returns c =
@@ -43,7 +38,6 @@ returns c =
     ap₂ (λ (x y : ℕ). Bad (BadEntry (a .number) x y)) (ap (λ (j : ℕ). j / a .w + 1) e ∙ add-one (i / a .w)) (ap (λ (j : ℕ). j % a .w + 1) e ∙ add-one (i % a .w))
     ∙ table-bad (a .w) (a .number) table (one-bad table (omega (arith, e)))
 
--- src/lib.rt:32:1
 returns-2 : tie.Need-returns-2
 returns-2 c =
     let table = c .before .before .args .table .now in
