@@ -1,5 +1,5 @@
 -- What the answers of `turn` and `close` mean for the work on a row: each step of the definitions, as the tables show it.
-use mathlib.Core.Path.{_≡_, refl, sym, ap, ap₂, _∙_, subst}
+use mathlib.Core.Path.{_≡_, refl, sym, ap, ap₂, _∙_}
 use mathlib.Core.Bool.{Bool, true, false}
 use mathlib.Core.List.{List, [], _∷_, _++_, map, append-assoc}
 use Prim.Native.Nat.{ℕ, suc, _≤_}
@@ -10,33 +10,20 @@ use lib.IntN.{ℤ, natAbs}
 use Rattle.rows.specs.Row.{allWithin}
 use Rattle.rows.specs.Table.{rowsOf, flat}
 use Rattle.rules.specs.Elimination.{State, Carried, Step, stepOf, putIn, putInto, wayBackRow, stepped, oneMore, closed, reasonOf, corrected, listedC, closing, stepping, Worked, passed, large}
-use Rattle.steps.specs.Shown.{Tried, made, beyond, tried, carry, carriedOf, laterOf, listedTurn, listedShut}
+use Rattle.steps.specs.Shown.{made, beyond, tried, carry, carriedOf, laterOf, listedTurn, listedShut}
+use Rattle.steps.proofs.TurnedTables.{tried-fits, tried-made as tried-same-made}
 use Rattle.elimination.specs.Ran.{inHand}
 
 -- ---- an attempt that was refused, and one that was not
-Made? : {A : Type 0} → Tried A → Type 0
-Made? (made a) = Unit {0}
-Made? beyond = ⊥
-
-Is? : {A : Type 0} → A → Tried A → Type 0
-Is? a (made b) = a ≡ b
-Is? a beyond = ⊥
-
 module _ {A : Type 0} where
   pub tried-beyond : (b : Bool) (x : A) → beyond ≡ tried b x → b ≡ false
-  unfolding Made?
-  tried-beyond true x e = absurd (subst Made? (sym e) tt)
-  tried-beyond false x e = refl
+  tried-beyond b x e = sym (tried-fits false b x x e)
 
   pub tried-true : (a : A) (b : Bool) (x : A) → made a ≡ tried b x → b ≡ true
-  unfolding Made?
-  tried-true a true x e = refl
-  tried-true a false x e = absurd (subst Made? e tt)
+  tried-true a b x e = sym (tried-fits true b a x e)
 
   pub tried-made : (a : A) (b : Bool) (x : A) → made a ≡ tried b x → a ≡ x
-  unfolding Is?
-  tried-made a true x e = subst (Is? a) e refl
-  tried-made a false x e = absurd (subst (Is? a) e refl)
+  tried-made a b x e = tried-same-made true b a x refl e
 
 -- ---- the steps of the definitions
 abbrev pub choose : Bool → Worked → Worked → Worked

@@ -3,15 +3,17 @@ ghost use mathlib.Core.Path.{_≡_};
 ghost use mathlib.Core.Bool.{true};
 ghost use mathlib.Core.List.{map};
 ghost use Prim.Native.Nat.{suc, _≤_, _<_, _+_, _*_};
-ghost use lib.IntN.{pos, natAbs};
-ghost use lib.ListN.{length, take, replicate};
-ghost use Rattle.rows.specs.Row.{at, unitRow, gcdOf, smallest, allWithin};
+ghost use lib.IntN.{pos};
+ghost use lib.ListN.{length, replicate};
+ghost use Rattle.rows.specs.Row.{unitRow, allWithin};
 ghost use Rattle.rows.specs.Table.{flat};
-ghost use Rattle.rules.specs.Elimination.{counted, identity, stepBound, stepping as steppingOf, work as workOf, inOrder};
+ghost use Rattle.rules.specs.Elimination.{counted, identity, work as workOf, inOrder};
 ghost use Rattle.steps.specs.Shown.{carriedOf, laterOf};
 ghost use Rattle.elimination.specs.Ran.{stateOf, inHand, workShown, ranShown, EndsWithD, FinishedAs, outcomeOf, eliminated, Working3, Results4};
+
+pub mod row;
+
 use steps::Kept;
-use steps::Turning;
 
 // The answer of the work on a row: passed, with the steps so far; a conflict with its D; a listed number too large.
 pub enum Working {
@@ -38,68 +40,6 @@ pub fn units(table: &mut [i64], count: usize, w: usize)
         table[r * w + r] = 1;
         r += 1;
     }
-}
-
-// The most steps that one row can take, from the bit length of its smallest coefficient.
-pub fn most_steps(coefficients: &[i64]) -> usize
-    requires { ⌜ (allWithin (now coefficients) ≡ true) × (0 < gcdOf (now coefficients)) ⌝ }
-    ensures { λ r. ⌜ r ≡ stepBound (natAbs (at (now (coefficients .entry)) (smallest (now (coefficients .entry))))) ⌝ }
-{
-    let k = rows::smallest(coefficients);
-    let a = coefficients[k];
-    let bits = whole::bit_length(whole::magnitude(a));
-    2 * (bits as usize) - 1
-}
-
-// (c) and (d), again and again.
-pub fn stepping(
-    rows: &mut [i64],
-    multipliers: &mut [i64],
-    divisors: &mut [u64],
-    substitution: &mut [i64],
-    marks: &mut [u8],
-    back: &mut [i64],
-    reasons: &mut [i64],
-    n: usize,
-    m: usize,
-    most: usize,
-    before: usize,
-) -> Working
-    requires { ⌜ Working3 n m (now rows) (now multipliers) (now divisors) × Results4 n m (now substitution) (now marks) (now back) (now reasons) ⌝ }
-    requires { ⌜ (1 ≤ length (now divisors)) × (0 < gcdOf (take n (now rows))) × (most ≤ 64) × (before ≤ 1000000) ⌝ }
-    ensures { λ r. ⌜ workShown r n m (now (rows .exit)) (now (multipliers .exit)) (now (divisors .exit)) (now (substitution .exit)) (now (marks .exit)) (now (back .exit)) (now (reasons .exit)) ≡ steppingOf allWithin n most (inHand n m (now (rows .entry)) (now (multipliers .entry)) (now (divisors .entry))) (laterOf n m (now (rows .entry)) (now (multipliers .entry)) (now (divisors .entry))) (stateOf n m (now (substitution .entry)) (now (marks .entry)) (now (back .entry)) (now (reasons .entry)) before) ⌝ }
-{
-    let mut left = most;
-    let mut count = before;
-    while 0 < left {
-        let found = steps::turn(rows, substitution, back, divisors.len(), n);
-        match found {
-            Turning::TooFar => {
-                return Working::Large(count);
-            }
-            Turning::Made { column, lead } => {
-                if whole::magnitude(lead) == 1 {
-                    if steps::close(
-                        rows,
-                        multipliers,
-                        divisors,
-                        marks,
-                        reasons,
-                        n,
-                        m,
-                        column,
-                        lead,
-                    ) {
-                        return Working::Passed(count + 1);
-                    }
-                    return Working::Large(count);
-                }
-            }
-        }
-        count += 1;
-        left -= 1;
-    }
-    Working::Large(count)
 }
 
 // (a) to (d) for the first row of the working tables.
@@ -139,8 +79,8 @@ pub fn work(
     if c != 1 {
         return Working::Unmet(divisors[0] * c, before);
     }
-    let most = most_steps(&rows[..n]);
-    stepping(
+    let most = row::most_steps(&rows[..n]);
+    row::stepping(
         rows,
         multipliers,
         divisors,

@@ -18,15 +18,14 @@ use Rattle.rows.specs.Row.{at, less, scaled, gcdOf, divided, allWithin}
 use Rattle.rows.proofs.Bounded.{and-left, and-right, and-both, bounded-nil, bounded-cons, bounded-append, bounded-set, bounded-divided}
 use Rattle.rules.specs.Elimination.{Carried, shared, lowestTerms, byGcd, reduced, factor, lost, corrected, numbersOf, listedA, listedD}
 use Rattle.steps.specs.Shown.{made, beyond, tried, carry}
+use Rattle.steps.proofs.TurnedTables.{tried-fits, tried-made as tried-same-made}
 
 -- ---- what an attempt tells that is known to be made, or to be refused
 pub tried-made : {A : Type 0} (fits : Bool) (a b : A) → made a ≡ tried fits b → (fits ≡ true) × (a ≡ b)
-tried-made true a b e = (refl, cc)
-tried-made false a b e = let z : _≡_ {A = ℕ} 0 1 = cc in absurd (omega arith)
+tried-made fits a b e = (sym (tried-fits true fits a b e), tried-same-made true fits a b refl e)
 
 pub tried-beyond : {A : Type 0} (fits : Bool) (b : A) → beyond ≡ tried fits b → fits ≡ false
-tried-beyond true b e = let z : _≡_ {A = ℕ} 0 1 = cc in absurd (omega arith)
-tried-beyond false b e = refl
+tried-beyond fits b e = sym (tried-fits false fits b b e)
 
 -- ---- lowest terms
 pub shared-nonzero : (multipliers : List ℤ) (d : ℕ) → 1 ≤ d → 0 < shared multipliers d

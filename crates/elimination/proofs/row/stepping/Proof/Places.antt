@@ -16,7 +16,7 @@ use Rattle.steps.specs.Shown.{tried, turned, listedTurn, turnedTables, shut, li
 use Rattle.steps.specs.declared.Turning.{Turning}
 use Rattle.elimination.proofs.Made.{firstStep, Steps, made-steps}
 use Rattle.elimination.proofs.Going.{comesTo, Long, Going, lead-small}
-use Rattle.elimination.proofs.stepping.Tie as tie
+use Rattle.elimination.proofs.row.stepping.Tie as tie
 
 abbrev pub Inv-loop : tie.InvT-loop
 Inv-loop rows₀ multipliers₀ divisors₀ substitution₀ marks₀ back₀ reasons₀ n m most before left₀ count₀ rows multipliers divisors substitution marks back reasons left count =

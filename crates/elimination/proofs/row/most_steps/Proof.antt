@@ -16,8 +16,8 @@ use Rattle.rows.proofs.Bounded.{bounded-at}
 use Rattle.rules.specs.Elimination.{stepBound}
 use Rattle.elimination.proofs.LeastBits.{least-found, least-alive, one-bit}
 use borrow.Author.Needs.{needs}
-use Rattle.elimination.proofs.most_steps.Statement.{statement}
-use Rattle.elimination.proofs.most_steps.Tie as tie
+use Rattle.elimination.proofs.row.most_steps.Statement.{statement}
+use Rattle.elimination.proofs.row.most_steps.Tie as tie
 
 smallest-requires : tie.Need-smallest-requires
 smallest-requires c κs = c .pre .0

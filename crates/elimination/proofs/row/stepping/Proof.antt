@@ -8,9 +8,9 @@ use borrow.Author.Tests.{eq-eqb, ne-eqb}
 use lib.IntN.{natAbs}
 use Rattle.elimination.proofs.Shuts.{too-far, shut-large, shut-passes}
 use Rattle.elimination.proofs.Going.{ahead-is, going-on, gone, column-small, lead-small}
-use Rattle.elimination.proofs.stepping.Statement.{statement}
-use Rattle.elimination.proofs.stepping.Tie as tie
-use Rattle.elimination.proofs.stepping.Proof.Places.{Inv-loop, μ-loop, head, entry, more, told, long-turned, turning, column, lead, stepped, lead-back, measured, found, shut-as, long-shut}
+use Rattle.elimination.proofs.row.stepping.Statement.{statement}
+use Rattle.elimination.proofs.row.stepping.Tie as tie
+use Rattle.elimination.proofs.row.stepping.Proof.Places.{Inv-loop, μ-loop, head, entry, more, told, long-turned, turning, column, lead, stepped, lead-back, measured, found, shut-as, long-shut}
 mod Places
 
 loop-holds : tie.Need-loop-holds Inv-loop μ-loop
