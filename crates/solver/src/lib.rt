@@ -1,0 +1,235 @@
+// One call over lent tables: nothing has to be checked before it.
+ghost use mathlib.Core.Path.{_≡_};
+ghost use mathlib.Core.Bool.{true};
+ghost use Prim.Native.Nat.{suc, _≤_, _*_};
+ghost use lib.IntN.{pos};
+ghost use lib.ListN.{length, replicate};
+ghost use Rattle.rows.specs.Row.{allWithin};
+ghost use Rattle.rows.specs.Table.{rowsOf};
+ghost use Rattle.rules.specs.Elimination.{elimination as eliminationOf};
+ghost use Rattle.rules.specs.Outcomes.{lookedAt, afterRun, solve as solveOf};
+ghost use Rattle.solver.specs.Answered.{answer, tables as tablesOf, lengthsRight};
+use elimination::Ran;
+use limits::Entries;
+use rules::Outcome;
+use rules::Refusal;
+
+// Whether the nine tables have their lengths.
+pub fn right_lengths(
+    n: usize,
+    m: usize,
+    k: usize,
+    equations: usize,
+    inequalities: usize,
+    substitution: usize,
+    marks: usize,
+    back: usize,
+    reasons: usize,
+    conflict: usize,
+    tightened: usize,
+    used: usize,
+) -> bool
+    requires { ⌜ (n ≤ 32) × (m ≤ 32) × (k ≤ 64) ⌝ }
+    ensures { λ r. ⌜ r ≡ lengthsRight n m k equations inequalities substitution marks back reasons conflict tightened used ⌝ }
+{
+    let w = n + 1;
+    let mut right = equations == m * w;
+    right = right & (inequalities == k * w);
+    right = right & (substitution == n * w);
+    right = right & (marks == n);
+    right = right & (back == n * w);
+    right = right & (reasons == n * (m + 1));
+    right = right & (conflict == m + 1);
+    right = right & (tightened == k * w);
+    right & (used == k)
+}
+
+// The two looks for a conflict among the tightened rows.
+pub fn look(tightened: &[i64], n: usize, k: usize, steps: usize) -> Outcome
+    requires { ⌜ (n ≤ 32) × (k ≤ 64) × (length (now tightened) ≡ k * suc n) × (allWithin (now tightened) ≡ true) ⌝ }
+    ensures { λ r. ⌜ r ≡ lookedAt n 0 k steps (rowsOf (suc n) k (now (tightened .entry))) ⌝ }
+{
+    let one = tightening::first_alone(tightened, k, n);
+    if one != 0 {
+        return Outcome::OneRowConflict { i: one, steps };
+    }
+    let pair = tightening::first_pair(tightened, k, n);
+    if pair.i != 0 {
+        return Outcome::TwoRowConflict {
+            i: pair.i,
+            j: pair.j,
+            steps,
+        };
+    }
+    Outcome::Open { steps }
+}
+
+// All seven result tables full of zeros.
+pub fn clear(
+    substitution: &mut [i64],
+    marks: &mut [u8],
+    back: &mut [i64],
+    reasons: &mut [i64],
+    conflict: &mut [i64],
+    tightened: &mut [i64],
+    used: &mut [u64],
+)
+    ensures run { λ _. ⌜ (now (substitution .exit) ≡ replicate (length (now (substitution .entry))) (pos 0)) × (now (marks .exit) ≡ replicate (length (now (marks .entry))) 0) × (now (back .exit) ≡ replicate (length (now (back .entry))) (pos 0)) × (now (reasons .exit) ≡ replicate (length (now (reasons .entry))) (pos 0)) ⌝ }
+    ensures rest { λ _. ⌜ (now (conflict .exit) ≡ replicate (length (now (conflict .entry))) (pos 0)) × (now (tightened .exit) ≡ replicate (length (now (tightened .entry))) (pos 0)) × (now (used .exit) ≡ replicate (length (now (used .entry))) 0) ⌝ }
+{
+    elimination::clear(substitution, marks, back, reasons);
+    tables::fill(conflict, 0);
+    tables::fill(tightened, 0);
+    tables::fill_sets(used, 0);
+}
+
+// The run and the inequalities, on tables of the right lengths with all entries within the limit.
+pub fn solve_good(
+    n: usize,
+    m: usize,
+    k: usize,
+    equations: &[i64],
+    inequalities: &[i64],
+    substitution: &mut [i64],
+    marks: &mut [u8],
+    back: &mut [i64],
+    reasons: &mut [i64],
+    conflict: &mut [i64],
+    tightened: &mut [i64],
+    used: &mut [u64],
+) -> Outcome
+    requires { ⌜ (1 ≤ n) × (n ≤ 32) × (m ≤ 32) × (k ≤ 64) × (length (now equations) ≡ m * suc n) ⌝ }
+    requires { ⌜ (length (now inequalities) ≡ k * suc n) × (length (now substitution) ≡ n * suc n) × (length (now marks) ≡ n) × (length (now back) ≡ n * suc n) × (length (now reasons) ≡ n * suc m) ⌝ }
+    requires { ⌜ (length (now conflict) ≡ suc m) × (length (now tightened) ≡ k * suc n) × (length (now used) ≡ k) × (allWithin (now equations) ≡ true) × (allWithin (now inequalities) ≡ true) ⌝ }
+    ensures { λ r. ⌜ answer r (now (substitution .exit)) (now (marks .exit)) (now (back .exit)) (now (reasons .exit)) (now (conflict .exit)) (now (tightened .exit)) (now (used .exit)) ≡ afterRun n m k (rowsOf (suc n) k (now (inequalities .entry))) (eliminationOf n m (rowsOf (suc n) m (now (equations .entry)))) ⌝ }
+{
+    let ran = elimination::eliminate(
+        equations,
+        substitution,
+        marks,
+        back,
+        reasons,
+        conflict,
+        n,
+        m,
+    );
+    match ran {
+        Ran::Finished(steps) => {
+            let bad = tightening::work_rows(
+                tightened,
+                used,
+                inequalities,
+                substitution,
+                marks,
+                reasons,
+                n,
+                m,
+            );
+            if bad != 0 {
+                clear(
+                    substitution,
+                    marks,
+                    back,
+                    reasons,
+                    conflict,
+                    tightened,
+                    used,
+                );
+                return Outcome::Refused(Refusal::LargeSum { inequality: bad });
+            }
+            look(tightened, n, k, steps)
+        }
+        Ran::Conflict { row, steps } => {
+            tables::fill(tightened, 0);
+            tables::fill_sets(used, 0);
+            Outcome::EquationConflict { row, steps }
+        }
+        Ran::Grown { row, steps } => {
+            tables::fill(tightened, 0);
+            tables::fill_sets(used, 0);
+            Outcome::Refused(Refusal::TooLarge { row, steps })
+        }
+    }
+}
+
+// What document 01 answers, and the result tables as it fills them: on every input whatsoever.
+pub fn solve(
+    n: usize,
+    m: usize,
+    k: usize,
+    equations: &[i64],
+    inequalities: &[i64],
+    substitution: &mut [i64],
+    marks: &mut [u8],
+    back: &mut [i64],
+    reasons: &mut [i64],
+    conflict: &mut [i64],
+    tightened: &mut [i64],
+    used: &mut [u64],
+) -> Outcome
+    ensures { λ r. ⌜ answer r (now (substitution .exit)) (now (marks .exit)) (now (back .exit)) (now (reasons .exit)) (now (conflict .exit)) (now (tightened .exit)) (now (used .exit)) ≡ solveOf n m k (now (equations .entry)) (now (inequalities .entry)) (tablesOf (now (substitution .entry)) (now (marks .entry)) (now (back .entry)) (now (reasons .entry)) (now (conflict .entry)) (now (tightened .entry)) (now (used .entry))) ⌝ }
+{
+    if !limits::in_range(n, m, k) {
+        return Outcome::Refused(Refusal::OutOfRange);
+    }
+    if !right_lengths(
+        n,
+        m,
+        k,
+        equations.len(),
+        inequalities.len(),
+        substitution.len(),
+        marks.len(),
+        back.len(),
+        reasons.len(),
+        conflict.len(),
+        tightened.len(),
+        used.len(),
+    ) {
+        return Outcome::Refused(Refusal::WrongLength);
+    }
+    let first = limits::check_table(n + 1, 0, equations);
+    let second = limits::check_table(n + 1, 1, inequalities);
+    match first {
+        Entries::Bad(refusal) => {
+            clear(
+                substitution,
+                marks,
+                back,
+                reasons,
+                conflict,
+                tightened,
+                used,
+            );
+            Outcome::Refused(refusal)
+        }
+        Entries::Good => match second {
+            Entries::Bad(refusal) => {
+                clear(
+                    substitution,
+                    marks,
+                    back,
+                    reasons,
+                    conflict,
+                    tightened,
+                    used,
+                );
+                Outcome::Refused(refusal)
+            }
+            Entries::Good => solve_good(
+                n,
+                m,
+                k,
+                equations,
+                inequalities,
+                substitution,
+                marks,
+                back,
+                reasons,
+                conflict,
+                tightened,
+                used,
+            ),
+        },
+    }
+}
