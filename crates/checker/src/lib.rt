@@ -12,7 +12,7 @@ use rules::Refusal;
 use rules::Verdict;
 
 // Whether d divides z; 0 divides only 0.
-pub fn divides(d: u64, z: i64) -> bool
+fn divides(d: u64, z: i64) -> bool
     requires { ⌜ natAbs z ≤ 9223372036854775807 ⌝ }
     ensures { λ r. ⌜ r ≡ dividesOf d z ⌝ }
 {
@@ -24,7 +24,7 @@ pub fn divides(d: u64, z: i64) -> bool
 }
 
 // Whether d divides every number of the row.
-pub fn divides_all(d: u64, row: &[i64]) -> bool
+fn divides_all(d: u64, row: &[i64]) -> bool
     requires { ⌜ bounded 9223372036854775807 (now row) ≡ true ⌝ }
     ensures { λ r. ⌜ r ≡ dividesAll d (now (row .entry)) ⌝ }
 {
@@ -40,7 +40,7 @@ pub fn divides_all(d: u64, row: &[i64]) -> bool
 }
 
 // The judgement on tables of the right lengths and equations within the limit.
-pub fn judge(n: usize, m: usize, equations: &[i64], table: &[i64]) -> Verdict
+fn judge(n: usize, m: usize, equations: &[i64], table: &[i64]) -> Verdict
     requires { ⌜ (1 ≤ n) × (n ≤ 32) × (m ≤ 32) × (length (now equations) ≡ m * suc n) × (length (now table) ≡ suc m) ⌝ }
     requires { ⌜ allWithin (now equations) ≡ true ⌝ }
     ensures { λ r. ⌜ r ≡ judged n m (now (equations .entry)) (now (table .entry)) ⌝ }

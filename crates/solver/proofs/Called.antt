@@ -1,5 +1,5 @@
 -- The cases of a call: refused at the first check that fails, else what the run answers.
-use mathlib.Core.Path.{_≡_, refl}
+use mathlib.Core.Path.{_≡_, refl, ap}
 use mathlib.Core.Bool.{Bool, true, false, _&&_}
 use mathlib.Core.List.{List}
 use Prim.Native.Nat.{ℕ, suc, _*_, _≤_}
@@ -15,9 +15,10 @@ use Rattle.rules.specs.declared.Refusal.the-variants.{OutOfRange, WrongLength}
 use Rattle.rules.specs.declared.Outcome.the-variants.{Refused}
 use Rattle.rules.specs.Elimination.{elimination}
 use Rattle.rules.specs.Outcomes.{Results, Answer, badEntry, blank, inRange, rightLengths, afterRun, fromEntries, solve}
+use Rattle.limits.specs.declared.Entries.{Entries}
 use Rattle.limits.specs.declared.Entries.the-variants.{Good, Bad}
 use Rattle.limits.specs.Checked.{tableChecked}
-use Rattle.solver.specs.Answered.{lengthsRight}
+use Rattle.solver.specs.Answered.{lengthsRight, entriesChecked}
 
 -- ---- what the checks tell: n, m and k are in range
 pub in-range : (n m k : ℕ) → inRange n m k ≡ true → (1 ≤ n) × (n ≤ 32) × (m ≤ 32) × (k ≤ 64)
@@ -70,77 +71,97 @@ all-long {n} {m} {k} {equations} {inequalities} {substitution} {marks} {wayBack}
       usedLong = eqb-true used k h₈;
     }
 
--- those of the result tables alone
-pub results-long : {n m k equations inequalities substitution marks wayBack reasons conflict tightened used : ℕ}
-    → Long n m k equations inequalities substitution marks wayBack reasons conflict tightened used
-    → (substitution ≡ n * suc n) × (marks ≡ n) × (wayBack ≡ n * suc n) × (reasons ≡ n * suc m) × (conflict ≡ suc m) × (tightened ≡ k * suc n) × (used ≡ k)
-results-long l = (l .substitutionLong, l .marksLong, l .wayBackLong, l .reasonsLong, l .conflictLong, l .tightenedLong, l .usedLong)
+-- ---- the entries of both tables
+module _ (n : ℕ) (equations inequalities : List ℤ) where
+  checked : Bool → Bool → Entries
+  checked first second =
+      elim first [
+        | true ↦ elim second [ true ↦ Good | false ↦ Bad (badEntry (suc n) 1 inequalities) ]
+        | false ↦ Bad (badEntry (suc n) 0 equations)
+      ]
 
--- the entries of a table
-module _ (width number : ℕ) (table : List ℤ) where
-  pub entries-good : Good ≡ tableChecked width number table → allWithin table ≡ true
-  entries-good = go (allWithin table)
+  -- where the equations are good, what the inequalities tell
+  pub first-good : Good ≡ tableChecked (suc n) 0 equations → tableChecked (suc n) 1 inequalities ≡ entriesChecked n equations inequalities
+  first-good = go (allWithin equations)
     where
-      go : (b : Bool) → Good ≡ elim b [ true ↦ Good | false ↦ Bad (badEntry width number table) ] → b ≡ true
+      go : (b : Bool) → Good ≡ elim b [ true ↦ Good | false ↦ Bad (badEntry (suc n) 0 equations) ]
+          → tableChecked (suc n) 1 inequalities ≡ elim b [ true ↦ tableChecked (suc n) 1 inequalities | false ↦ Bad (badEntry (suc n) 0 equations) ]
       go true h = refl
       go false h = let z : _≡_ {A = ℕ} 0 1 = cc in absurd (omega arith)
 
-  pub entries-bad : (refusal : Refusal) → Bad refusal ≡ tableChecked width number table
-      → (allWithin table ≡ false) × (refusal ≡ badEntry width number table)
-  entries-bad refusal = go (allWithin table)
+  pub first-bad : (refusal : Refusal) → Bad refusal ≡ tableChecked (suc n) 0 equations → Bad refusal ≡ entriesChecked n equations inequalities
+  first-bad refusal = go (allWithin equations)
     where
-      go : (b : Bool) → Bad refusal ≡ elim b [ true ↦ Good | false ↦ Bad (badEntry width number table) ]
-          → (b ≡ false) × (refusal ≡ badEntry width number table)
+      go : (b : Bool) → Bad refusal ≡ elim b [ true ↦ Good | false ↦ Bad (badEntry (suc n) 0 equations) ]
+          → Bad refusal ≡ elim b [ true ↦ tableChecked (suc n) 1 inequalities | false ↦ Bad (badEntry (suc n) 0 equations) ]
       go true h = let z : _≡_ {A = ℕ} 0 1 = cc in absurd (omega arith)
-      go false h = (refl, cc)
+      go false h = h
+
+  pub entries-good : Good ≡ entriesChecked n equations inequalities → (allWithin equations ≡ true) × (allWithin inequalities ≡ true)
+  unfolding checked
+  entries-good = go (allWithin equations) (allWithin inequalities)
+    where
+      go : (first second : Bool) → Good ≡ checked first second → (first ≡ true) × (second ≡ true)
+      go true true h = (refl, refl)
+      go true false h = let z : _≡_ {A = ℕ} 0 1 = cc in absurd (omega arith)
+      go false second h = let z : _≡_ {A = ℕ} 0 1 = cc in absurd (omega arith)
+
+-- ---- what they lead to
+module _ (n m k : ℕ) (equations inequalities : List ℤ) where
+  entered : Bool → Bool → Answer
+  entered first second =
+      elim first [
+        | true ↦ elim second [
+          | true ↦ afterRun n m k (rowsOf (suc n) k inequalities) (elimination n m (rowsOf (suc n) m equations))
+          | false ↦ record { outcome = Refused (badEntry (suc n) 1 inequalities); results = blank n m k }
+        ]
+        | false ↦ record { outcome = Refused (badEntry (suc n) 0 equations); results = blank n m k }
+      ]
+
+  pub all-good : (allWithin equations ≡ true) × (allWithin inequalities ≡ true)
+      → fromEntries n m k equations inequalities ≡ afterRun n m k (rowsOf (suc n) k inequalities) (elimination n m (rowsOf (suc n) m equations))
+  unfolding fromEntries entered
+  all-good h = λ i. entered (h .0 i) (h .1 i)
+
+  pub entries-bad : (refusal : Refusal) → Bad refusal ≡ entriesChecked n equations inequalities
+      → fromEntries n m k equations inequalities ≡ record { outcome = Refused refusal; results = blank n m k }
+  unfolding fromEntries entered checked
+  entries-bad refusal = go (allWithin equations) (allWithin inequalities)
+    where
+      go : (first second : Bool) → Bad refusal ≡ checked n equations inequalities first second → entered first second ≡ record { outcome = Refused refusal; results = blank n m k }
+      go true true h = let z : _≡_ {A = ℕ} 0 1 = cc in absurd (omega arith)
+      go true false h = let e : badEntry (suc n) 1 inequalities ≡ refusal = cc in ap (λ (r : Refusal). record { outcome = Refused r; results = blank n m k }) e
+      go false second h = let e : badEntry (suc n) 0 equations ≡ refusal = cc in ap (λ (r : Refusal). record { outcome = Refused r; results = blank n m k }) e
 
 -- ---- what the call answers
 module _ (n m k : ℕ) (equations inequalities : List ℤ) (given : Results) where
-  -- by the four checks, in their order
-  answered : Bool → Bool → Bool → Bool → Answer
-  answered range lengths first second =
+  -- by the first two checks, in their order
+  answered : Bool → Bool → Answer
+  answered range lengths =
       elim range [
         | true ↦ elim lengths [
-          | true ↦ elim first [
-            | true ↦ elim second [
-              | true ↦ afterRun n m k (rowsOf (suc n) k inequalities) (elimination n m (rowsOf (suc n) m equations))
-              | false ↦ record { outcome = Refused (badEntry (suc n) 1 inequalities); results = blank n m k }
-            ]
-            | false ↦ record { outcome = Refused (badEntry (suc n) 0 equations); results = blank n m k }
-          ]
+          | true ↦ fromEntries n m k equations inequalities
           | false ↦ record { outcome = Refused WrongLength; results = given }
         ]
         | false ↦ record { outcome = Refused OutOfRange; results = given }
       ]
 
-  called-by : {range lengths first second : Bool}
-      → inRange n m k ≡ range → rightLengths n m k equations inequalities given ≡ lengths → allWithin equations ≡ first → allWithin inequalities ≡ second
-      → solve n m k equations inequalities given ≡ answered range lengths first second
-  unfolding solve fromEntries answered
-  called-by r l f s = λ i. answered (r i) (l i) (f i) (s i)
+  called-by : {range lengths : Bool} → inRange n m k ≡ range → rightLengths n m k equations inequalities given ≡ lengths
+      → solve n m k equations inequalities given ≡ answered range lengths
+  unfolding solve answered
+  called-by r l = λ i. answered (r i) (l i)
 
   pub out-of-range : inRange n m k ≡ false → solve n m k equations inequalities given ≡ record { outcome = Refused OutOfRange; results = given }
   unfolding answered
-  out-of-range r = called-by r refl refl refl
+  out-of-range r = called-by r refl
 
   module _ (range : inRange n m k ≡ true) where
     pub wrong-length : rightLengths n m k equations inequalities given ≡ false
         → solve n m k equations inequalities given ≡ record { outcome = Refused WrongLength; results = given }
     unfolding answered
-    wrong-length l = called-by range l refl refl
+    wrong-length l = called-by range l
 
-    module _ (lengths : rightLengths n m k equations inequalities given ≡ true) where
-      pub bad-equation : allWithin equations ≡ false
-          → solve n m k equations inequalities given ≡ record { outcome = Refused (badEntry (suc n) 0 equations); results = blank n m k }
-      unfolding answered
-      bad-equation f = called-by range lengths f refl
-
-      pub bad-inequality : allWithin equations ≡ true → allWithin inequalities ≡ false
-          → solve n m k equations inequalities given ≡ record { outcome = Refused (badEntry (suc n) 1 inequalities); results = blank n m k }
-      unfolding answered
-      bad-inequality f s = called-by range lengths f s
-
-      pub all-good : allWithin equations ≡ true → allWithin inequalities ≡ true
-          → solve n m k equations inequalities given ≡ afterRun n m k (rowsOf (suc n) k inequalities) (elimination n m (rowsOf (suc n) m equations))
-      unfolding answered
-      all-good f s = called-by range lengths f s
+    pub right-length : rightLengths n m k equations inequalities given ≡ true
+        → solve n m k equations inequalities given ≡ fromEntries n m k equations inequalities
+    unfolding answered
+    right-length l = called-by range l

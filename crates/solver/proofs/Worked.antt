@@ -11,9 +11,9 @@ use Rattle.rows.specs.Row.{allWithin}
 use Rattle.rows.specs.Table.{rowsOf}
 use Rattle.rules.specs.declared.Outcome.the-variants.{Refused}
 use Rattle.rules.specs.declared.Refusal.the-variants.{LargeSum}
-use Rattle.rules.specs.Elimination.{State, finished}
+use Rattle.rules.specs.Elimination.{State}
 use Rattle.rules.specs.Inequalities.{sums, usedBy, tightenedRow, firstRow}
-use Rattle.rules.specs.Outcomes.{Answer, blank, allFilled, lookedAt, withInequalities, afterRun}
+use Rattle.rules.specs.Outcomes.{Answer, blank, allFilled, lookedAt, withInequalities}
 use Rattle.tightening.specs.Shown.{RowsWorked, allWorked, firstLarge, rowsShown, rowsWorked}
 
 module _ (n m k : ℕ) (s : State) (inequalities : List (List ℤ)) where
@@ -63,15 +63,15 @@ module _ (n m k : ℕ) (s : State) (inequalities : List (List ℤ)) where
         | false ↦ record { outcome = Refused (LargeSum bad); results = blank n m k }
       ]
 
-  answered-by : (none : Bool) → eqb bad 0 ≡ none → answered none ≡ afterRun n m k inequalities (finished s)
-  unfolding afterRun withInequalities answered
+  answered-by : (none : Bool) → eqb bad 0 ≡ none → answered none ≡ withInequalities n m k inequalities s
+  unfolding withInequalities answered
   answered-by none e = sym (ap answered e)
 
   pub after-all : bad ≡ 0
-      → record { outcome = lookedAt n m k (s .steps) rows; results = allFilled n m k s rows sets } ≡ afterRun n m k inequalities (finished s)
+      → record { outcome = lookedAt n m k (s .steps) rows; results = allFilled n m k s rows sets } ≡ withInequalities n m k inequalities s
   unfolding answered
   after-all e = answered-by true (eq-eqb bad 0 e)
 
-  pub after-large : (bad ≡ 0 → ⊥) → record { outcome = Refused (LargeSum bad); results = blank n m k } ≡ afterRun n m k inequalities (finished s)
+  pub after-large : (bad ≡ 0 → ⊥) → record { outcome = Refused (LargeSum bad); results = blank n m k } ≡ withInequalities n m k inequalities s
   unfolding answered
   after-large some = answered-by false (ne-eqb bad 0 some)

@@ -7,45 +7,19 @@ ghost use lib.ListN.{length, replicate};
 ghost use Rattle.rows.specs.Row.{allWithin};
 ghost use Rattle.rows.specs.Table.{rowsOf};
 ghost use Rattle.rules.specs.Elimination.{elimination as eliminationOf};
-ghost use Rattle.rules.specs.Outcomes.{lookedAt, afterRun, solve as solveOf};
-ghost use Rattle.solver.specs.Answered.{answer, tables as tablesOf, lengthsRight};
+ghost use Rattle.rules.specs.Outcomes.{lookedAt, withInequalities as withInequalitiesOf, afterRun, fromEntries, solve as solveOf};
+ghost use Rattle.elimination.specs.Ran.{stateOf};
+ghost use Rattle.solver.specs.Answered.{answer, tables as tablesOf};
+
+mod checks;
+
 use elimination::Ran;
 use limits::Entries;
 use rules::Outcome;
 use rules::Refusal;
 
-// Whether the nine tables have their lengths.
-pub fn right_lengths(
-    n: usize,
-    m: usize,
-    k: usize,
-    equations: usize,
-    inequalities: usize,
-    substitution: usize,
-    marks: usize,
-    back: usize,
-    reasons: usize,
-    conflict: usize,
-    tightened: usize,
-    used: usize,
-) -> bool
-    requires { ⌜ (n ≤ 32) × (m ≤ 32) × (k ≤ 64) ⌝ }
-    ensures { λ r. ⌜ r ≡ lengthsRight n m k equations inequalities substitution marks back reasons conflict tightened used ⌝ }
-{
-    let w = n + 1;
-    let mut right = equations == m * w;
-    right = right & (inequalities == k * w);
-    right = right & (substitution == n * w);
-    right = right & (marks == n);
-    right = right & (back == n * w);
-    right = right & (reasons == n * (m + 1));
-    right = right & (conflict == m + 1);
-    right = right & (tightened == k * w);
-    right & (used == k)
-}
-
 // The two looks for a conflict among the tightened rows.
-pub fn look(tightened: &[i64], n: usize, k: usize, steps: usize) -> Outcome
+fn look(tightened: &[i64], n: usize, k: usize, steps: usize) -> Outcome
     requires { ⌜ (n ≤ 32) × (k ≤ 64) × (length (now tightened) ≡ k * suc n) × (allWithin (now tightened) ≡ true) ⌝ }
     ensures { λ r. ⌜ r ≡ lookedAt n 0 k steps (rowsOf (suc n) k (now (tightened .entry))) ⌝ }
 {
@@ -65,7 +39,7 @@ pub fn look(tightened: &[i64], n: usize, k: usize, steps: usize) -> Outcome
 }
 
 // All seven result tables full of zeros.
-pub fn clear(
+fn clear(
     substitution: &mut [i64],
     marks: &mut [u8],
     back: &mut [i64],
@@ -83,8 +57,52 @@ pub fn clear(
     tables::fill_sets(used, 0);
 }
 
+// The inequalities after a run that finished: all rows are worked before a conflict is looked for.
+fn with_inequalities(
+    n: usize,
+    m: usize,
+    k: usize,
+    steps: usize,
+    inequalities: &[i64],
+    substitution: &mut [i64],
+    marks: &mut [u8],
+    back: &mut [i64],
+    reasons: &mut [i64],
+    conflict: &mut [i64],
+    tightened: &mut [i64],
+    used: &mut [u64],
+) -> Outcome
+    requires { ⌜ (n ≤ 32) × (m ≤ 32) × (k ≤ 64) × (length (now inequalities) ≡ k * suc n) × (length (now substitution) ≡ n * suc n) × (length (now marks) ≡ n) × (length (now back) ≡ n * suc n) × (length (now reasons) ≡ n * suc m) ⌝ }
+    requires { ⌜ (now conflict ≡ replicate (suc m) (pos 0)) × (length (now tightened) ≡ k * suc n) × (length (now used) ≡ k) × (allWithin (now inequalities) ≡ true) × (allWithin (now substitution) ≡ true) ⌝ }
+    ensures { λ r. ⌜ answer r (now (substitution .exit)) (now (marks .exit)) (now (back .exit)) (now (reasons .exit)) (now (conflict .exit)) (now (tightened .exit)) (now (used .exit)) ≡ withInequalitiesOf n m k (rowsOf (suc n) k (now (inequalities .entry))) (stateOf n m (now (substitution .entry)) (now (marks .entry)) (now (back .entry)) (now (reasons .entry)) steps) ⌝ }
+{
+    let bad = tightening::work_rows(
+        tightened,
+        used,
+        inequalities,
+        substitution,
+        marks,
+        reasons,
+        n,
+        m,
+    );
+    if bad != 0 {
+        clear(
+            substitution,
+            marks,
+            back,
+            reasons,
+            conflict,
+            tightened,
+            used,
+        );
+        return Outcome::Refused(Refusal::LargeSum { inequality: bad });
+    }
+    look(tightened, n, k, steps)
+}
+
 // The run and the inequalities, on tables of the right lengths with all entries within the limit.
-pub fn solve_good(
+fn solve_good(
     n: usize,
     m: usize,
     k: usize,
@@ -114,31 +132,20 @@ pub fn solve_good(
         m,
     );
     match ran {
-        Ran::Finished(steps) => {
-            let bad = tightening::work_rows(
-                tightened,
-                used,
-                inequalities,
-                substitution,
-                marks,
-                reasons,
-                n,
-                m,
-            );
-            if bad != 0 {
-                clear(
-                    substitution,
-                    marks,
-                    back,
-                    reasons,
-                    conflict,
-                    tightened,
-                    used,
-                );
-                return Outcome::Refused(Refusal::LargeSum { inequality: bad });
-            }
-            look(tightened, n, k, steps)
-        }
+        Ran::Finished(steps) => with_inequalities(
+            n,
+            m,
+            k,
+            steps,
+            inequalities,
+            substitution,
+            marks,
+            back,
+            reasons,
+            conflict,
+            tightened,
+            used,
+        ),
         Ran::Conflict { row, steps } => {
             tables::fill(tightened, 0);
             tables::fill_sets(used, 0);
@@ -149,6 +156,56 @@ pub fn solve_good(
             tables::fill_sets(used, 0);
             Outcome::Refused(Refusal::TooLarge { row, steps })
         }
+    }
+}
+
+// Refusal 3 or the run, on tables of the right lengths.
+fn solve_long(
+    n: usize,
+    m: usize,
+    k: usize,
+    equations: &[i64],
+    inequalities: &[i64],
+    substitution: &mut [i64],
+    marks: &mut [u8],
+    back: &mut [i64],
+    reasons: &mut [i64],
+    conflict: &mut [i64],
+    tightened: &mut [i64],
+    used: &mut [u64],
+) -> Outcome
+    requires { ⌜ (1 ≤ n) × (n ≤ 32) × (m ≤ 32) × (k ≤ 64) × (length (now equations) ≡ m * suc n) × (length (now inequalities) ≡ k * suc n) ⌝ }
+    requires { ⌜ (length (now substitution) ≡ n * suc n) × (length (now marks) ≡ n) × (length (now back) ≡ n * suc n) × (length (now reasons) ≡ n * suc m) × (length (now conflict) ≡ suc m) × (length (now tightened) ≡ k * suc n) × (length (now used) ≡ k) ⌝ }
+    ensures { λ r. ⌜ answer r (now (substitution .exit)) (now (marks .exit)) (now (back .exit)) (now (reasons .exit)) (now (conflict .exit)) (now (tightened .exit)) (now (used .exit)) ≡ fromEntries n m k (now (equations .entry)) (now (inequalities .entry)) ⌝ }
+{
+    let entries = checks::check_entries(n, equations, inequalities);
+    match entries {
+        Entries::Bad(refusal) => {
+            clear(
+                substitution,
+                marks,
+                back,
+                reasons,
+                conflict,
+                tightened,
+                used,
+            );
+            Outcome::Refused(refusal)
+        }
+        Entries::Good => solve_good(
+            n,
+            m,
+            k,
+            equations,
+            inequalities,
+            substitution,
+            marks,
+            back,
+            reasons,
+            conflict,
+            tightened,
+            used,
+        ),
     }
 }
 
@@ -172,7 +229,7 @@ pub fn solve(
     if !limits::in_range(n, m, k) {
         return Outcome::Refused(Refusal::OutOfRange);
     }
-    if !right_lengths(
+    if !checks::right_lengths(
         n,
         m,
         k,
@@ -188,48 +245,18 @@ pub fn solve(
     ) {
         return Outcome::Refused(Refusal::WrongLength);
     }
-    let first = limits::check_table(n + 1, 0, equations);
-    let second = limits::check_table(n + 1, 1, inequalities);
-    match first {
-        Entries::Bad(refusal) => {
-            clear(
-                substitution,
-                marks,
-                back,
-                reasons,
-                conflict,
-                tightened,
-                used,
-            );
-            Outcome::Refused(refusal)
-        }
-        Entries::Good => match second {
-            Entries::Bad(refusal) => {
-                clear(
-                    substitution,
-                    marks,
-                    back,
-                    reasons,
-                    conflict,
-                    tightened,
-                    used,
-                );
-                Outcome::Refused(refusal)
-            }
-            Entries::Good => solve_good(
-                n,
-                m,
-                k,
-                equations,
-                inequalities,
-                substitution,
-                marks,
-                back,
-                reasons,
-                conflict,
-                tightened,
-                used,
-            ),
-        },
-    }
+    solve_long(
+        n,
+        m,
+        k,
+        equations,
+        inequalities,
+        substitution,
+        marks,
+        back,
+        reasons,
+        conflict,
+        tightened,
+        used,
+    )
 }

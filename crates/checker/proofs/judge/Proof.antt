@@ -2,134 +2,31 @@
 -- of that row decides.
 use mathlib.Core.Path.{_≡_, refl, sym, ap, ap₂, _∙_}
 use mathlib.Core.Bool.{Bool, true, false}
-use mathlib.Core.List.{List, _++_}
-use Prim.Native.Nat.{ℕ, suc, _+_, _*_, _≤_}
+use Prim.Native.Nat.{ℕ, suc, _+_, _*_}
 use native.Mathlib.Nat.{le-trans}
 use native.Mathlib.Numerals.{add-one}
 use native.Mathlib.Omega.{arith}
 use borrow.Author.Needs.{needs}
-use lib.IntN.{ℤ, pos, natAbs}
-use lib.ListN.{length, take, drop, replicate, List·getD-append, length-append}
-use lib.Seq.{length-take-le, take-append-le}
+use lib.IntN.{pos, natAbs}
+use lib.ListN.{take}
+use lib.Seq.{length-take-le}
 use mir.Syntax.{w64}
-use mir.Val.{SFits}
-use mir.Facts.{toZ-ofZ, sfits-lit}
-use Rattle.whole.specs.Gcd.{divides}
+use mir.Facts.{sfits-lit}
 use Rattle.whole.proofs.Bounds.{bits-le}
-use Rattle.whole.proofs.Taken.{back, lt-taken, lt-left}
-use Rattle.rows.specs.Row.{at, allWithin, bounded, firstBeyond, zeros}
+use Rattle.whole.proofs.Taken.{lt-taken, lt-left}
+use Rattle.rows.specs.Row.{at, allWithin, bounded, firstBeyond}
 use Rattle.rows.specs.Table.{rowsOf}
 use Rattle.rows.proofs.Bounded.{bounded-at, bounded-take}
 use Rattle.rules.specs.declared.Refusal.the-variants.{BadEntry}
 use Rattle.rules.specs.declared.Verdict.the-variants.{NotChecked}
-use Rattle.rules.specs.Checker.{dividesAll, combined, goodD}
-use Rattle.limits.proofs.Verdicts.{one-bad, none-bad, beyond-le}
+use Rattle.rules.specs.Checker.{dividesAll, goodD}
+use Rattle.limits.proofs.Verdicts.{one-bad}
 use Rattle.checker.proofs.Judged.{multiplier-bad, d-bad, d-good, d-negative, d-large, d-right, d-size, refutes-is, not-refuted}
-use Rattle.checker.proofs.Combined.{lent-zeros, within-zeros, length-zeros, combined-is, length-combined, combined-fits}
+use Rattle.checker.proofs.Combined.{within-zeros}
 use Rattle.checker.proofs.judge.Statement.{statement}
 use Rattle.checker.proofs.judge.Tie as tie
-
--- ---- the multipliers, all within the limit past the first test
-abbrev multipliers : tie.Start → List ℤ
-multipliers s = take (s .args .m) (s .args .table .now)
-
-many : (s : tie.Start) → length (multipliers s) ≡ s .args .m
-many s = length-take-le (s .args .m) (s .args .table .now) (omega arith)
-
-good : (c : tie.Else1) → allWithin (multipliers (c .before .before .before)) ≡ true
-good c =
-    let s = c .before .before .before in
-    none-bad (multipliers s) (omega (arith, c .before .first-beyond .ensures, many s, beyond-le (multipliers s)))
-
--- ---- D, and its size
-abbrev dOf : tie.Start → ℤ
-dOf s = at (s .args .table .now) (s .args .m)
-
-abbrev entry : tie.After-d → tie.Start
-entry c = c .before .before .before .before
-
--- the greatest D
-most : SFits w64 (pos 72057594037927936)
-most = sfits-lit {z = pos 72057594037927936} tt
-
-d-fits : (c : tie.After-d) → SFits w64 (dOf (entry c))
-d-fits c = record { sfits = c .d .given }
-
--- where D was read
-abbrev read : tie.Else3 → tie.After-d
-read c = c .before .before
-
-size : (c : tie.After-magnitude) → c .magnitude .result ≡ natAbs (dOf (entry (read (c .before))))
-size c = c .magnitude .ensures ∙ ap natAbs (toZ-ofZ (d-fits (read (c .before))))
-
--- ---- the row: 0s, and then the combined row in front of 0s
-abbrev empty : List ℤ
-empty = replicate 33 (pos 0)
-
--- where D's size is known, and the start
-abbrev sized : tie.After-gather → tie.After-magnitude
-sized c = c .before .before .before
-
-abbrev start : tie.After-magnitude → tie.Start
-start c = entry (read (c .before))
-
--- the combined row
-abbrev total : tie.Start → List ℤ
-total s = let a = s .args in combined (a .n) (multipliers s) (rowsOf (suc (a .n)) (a .m) (a .equations .now))
-
-lent : (s : tie.Start) → take (s .args .n + 1) empty ≡ zeros (suc (s .args .n))
-lent s = lent-zeros (s .args .n) 33 (omega arith)
-
-lent-length : (s : tie.Start) → length (take (s .args .n + 1) empty) ≡ suc (s .args .n)
-lent-length s = ap length (lent s) ∙ length-zeros (suc (s .args .n))
-
-gotten : (c : tie.After-gather) → c .gather .last .0 ≡ total (start (sized c))
-gotten c =
-    let s = start (sized c) in
-    let a = s .args in
-    rw (lent-length s, many s, lent s) at (c .gather .ensures) ∙ combined-is (a .n) (multipliers s) (rowsOf (suc (a .n)) (a .m) (a .equations .now))
-
-gotten-length : (c : tie.After-gather) → length (c .gather .last .0) ≡ suc (start (sized c) .args .n)
-gotten-length c =
-    let s = start (sized c) in
-    ap length (gotten c) ∙ length-combined (s .args .n) (multipliers s) (rowsOf (suc (s .args .n)) (s .args .m) (s .args .equations .now))
-
-abbrev row : tie.After-gather → List ℤ
-row c = c .gather .last .0 ++ drop (start (sized c) .args .n + 1) empty
-
-row-length : (c : tie.After-gather) → start (sized c) .args .n ≤ length (row c)
-row-length c = simp length-append (omega (arith, gotten-length c))
-
--- the constant and the coefficients
-constant : (c : tie.After-gather) → let s = start (sized c) in at (row c) (s .args .n) ≡ at (total s) (s .args .n)
-constant c =
-    let n = start (sized c) .args .n in
-    List·getD-append (c .gather .last .0) (drop (n + 1) empty) (pos 0) n (omega (arith, gotten-length c)) ∙ ap (λ (r : List ℤ). at r n) (gotten c)
-
-coefficients : (c : tie.After-gather) → let s = start (sized c) in take (s .args .n) (row c) ≡ take (s .args .n) (total s)
-coefficients c =
-    let n = start (sized c) .args .n in
-    take-append-le n (c .gather .last .0) (drop (n + 1) empty) (omega (arith, gotten-length c)) ∙ ap (take n) (gotten c)
-
--- all of the combined row fits
-fits : (c : tie.After-magnitude) → bounded 9223372036854775807 (total (start c)) ≡ true
-fits c =
-    let s = start c in
-    combined-fits (s .args .n) (s .args .m) (multipliers s) (s .args .equations .now) (many s) (s .pre .0 .2) (good (read (c .before) .before)) (s .pre .1)
-
--- ---- what D divides
-divided : (c : tie.After-divides) → let s = start (sized (c .before .before .before)) in
-    divides (natAbs (dOf s)) (at (total s) (s .args .n)) ≡ c .divides .result
-divided c =
-    let g = c .before .before .before in
-    let n = start (sized g) .args .n in
-    sym (c .divides .ensures ∙ ap₂ divides (size (sized g)) (back (at (row g) n) (c .before .c .given) ∙ constant g))
-
-divided-all : (c : tie.After-divides-all) → let s = start (sized (c .before .before .before .before .before .before)) in
-    dividesAll (natAbs (dOf s)) (take (s .args .n) (total s)) ≡ c .divides-all .result
-divided-all c =
-    let g = c .before .before .before .before .before .before in
-    sym (c .divides-all .ensures ∙ ap₂ dividesAll (size (sized g)) (coefficients g))
+use Rattle.checker.proofs.judge.Proof.Places.{multipliers, many, good, dOf, entry, most, d-fits, read, sized, start, total, lent, lent-length, row, row-length, constant, coefficients, fits, divided, divided-all}
+mod Places
 
 add-w : tie.Need-add-w
 add-w c = search needs

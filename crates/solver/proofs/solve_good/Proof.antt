@@ -1,20 +1,18 @@
--- `solver::solve_good` meets its contract. A run that finished leaves its state in the tables, from which the rows are worked: one is too
--- large, and all tables hold zeros, or none is, and the looks decide. A run that ended otherwise has its tables, with zeros for the
--- inequalities. `Places` has what holds after the calls.
-use mathlib.Core.Path.{refl, sym, ap, _∙_, subst}
-use Prim.Native.Nat.{ℕ, suc, _*_}
-use native.Mathlib.Omega.{arith}
+-- `solver::solve_good` meets its contract. A run that finished leaves its state in the tables, from which the inequalities are worked. A
+-- run that ended otherwise has its tables, with zeros for the inequalities. `Places` has what holds after the run.
+use mathlib.Core.Path.{sym, ap, _∙_, subst}
+use Prim.Native.Nat.{ℕ, suc}
 use borrow.Author.Needs.{needs}
 use lib.ListN.{replicate}
 use lib.IntN.{pos}
+use Rattle.rows.specs.Table.{rowsOf}
 use Rattle.elimination.specs.Ran.{outcomeOf}
-use Rattle.solver.proofs.Tabled.{all-blank}
 use Rattle.solver.proofs.Ended.{NotOpen}
-use Rattle.solver.proofs.Finished.{open-answer, large-answer}
+use Rattle.solver.proofs.Finished.{run-answer}
 use Rattle.solver.proofs.solve_good.Statement.{statement}
 use Rattle.solver.proofs.solve_good.Tie as tie
-use Rattle.solver.proofs.solve_good.Proof.Places.{entry, substitution, marks, wayBack, reasons, substitution-long, marks-long, wayBack-long, reasons-long, conflict-long, after-run}
-use Rattle.solver.proofs.solve_good.Proof.Places.{run, steps, done, inside, conflict-blank, ran, tightened-long, used-long, worked, rows-inside}
+use Rattle.solver.proofs.solve_good.Proof.Places.{entry, substitution, marks, wayBack, reasons, substitution-long, marks-long, wayBack-long, reasons-long, after-run}
+use Rattle.solver.proofs.solve_good.Proof.Places.{run, steps, done, inside, conflict-blank}
 mod Places
 
 eliminate-requires : tie.Need-eliminate-requires
@@ -25,19 +23,32 @@ eliminate-requires c κs =
 enum-known-ran : tie.Need-enum-known-ran
 enum-known-ran c = search needs
 
-work-rows-requires : tie.Need-work-rows-requires
-work-rows-requires c κs =
-    let r = c .before .before .before .before .before .before in
+with-inequalities-requires : tie.Need-with-inequalities-requires
+with-inequalities-requires c κs =
+    let r = c .before .before .before .before .before .before .before .before in
     let q = run r in
-    let s = entry q in
-    let p = s .pre in
-    let long = ap (λ (k : ℕ). k * suc (s .args .n)) (sym (p .1 .1 .2)) in (
-      (p .1 .1 .1 ∙ long, p .1 .0 .0 ∙ long, substitution-long q, marks-long q, reasons-long q),
-      (p .0 .1, p .0 .2, omega arith, p .1 .1 .4, inside r),
+    let p = entry q .pre in (
+      (p .0 .1, p .0 .2, p .0 .3, p .1 .0 .0, substitution-long q, marks-long q, wayBack-long q, reasons-long q),
+      (conflict-blank r, p .1 .1 .1, p .1 .1 .2, p .1 .1 .4, inside r),
     )
 
-clear-requires : tie.Need-clear-requires
-clear-requires c κs = search needs
+enum-known-ran-2 : tie.Need-enum-known-ran-2
+enum-known-ran-2 c = search needs
+
+fill-requires : tie.Need-fill-requires
+fill-requires c κs = search needs
+
+fill-sets-requires : tie.Need-fill-sets-requires
+fill-sets-requires c κs = search needs
+
+enum-known-ran-3 : tie.Need-enum-known-ran-3
+enum-known-ran-3 c = search needs
+
+fill-requires-2 : tie.Need-fill-requires-2
+fill-requires-2 c κs = search needs
+
+fill-sets-requires-2 : tie.Need-fill-sets-requires-2
+fill-sets-requires-2 c κs = search needs
 
 same-length : tie.Need-same-length
 same-length c = search needs
@@ -63,39 +74,12 @@ same-length-7 c = search needs
 returns : tie.Need-returns
 returns c =
     let l = c .before .before .before .before .before .before .before .before .before in
-    let w = l .before .before .before .before .before .before .before .before .before .before .before .before in
-    let r = ran w in
+    let r = l .before .before .before .before .before .before .before .before .before in
     let q = run r in
     let a = entry q .args in
-    all-blank (a .n) (a .m) (a .k) refl (l .clear .ensures .0) (l .clear .ensures .1)
-    (substitution-long q, marks-long q, wayBack-long q, reasons-long q, conflict-long q, tightened-long w, used-long w)
-    ∙ large-answer (a .n) (a .m) (a .equations .now) (substitution q) (marks q) (wayBack q) (reasons q) (steps r) (done r)
-    (a .k) (a .inequalities .now) (w .work-rows .last .0) (w .work-rows .last .1 .0)
-    (w .work-rows .result) (l .before .before .before .before .before .before .before .before .if1 .taken) (worked w (w .work-rows .result) refl)
-
-look-requires : tie.Need-look-requires
-look-requires c κs =
-    let w = c .before .before .before .before .before in
-    let p = entry (run (ran w)) .pre in
-    (p .0 .1, p .0 .3, tightened-long w, rows-inside w (c .before .if1 .left))
-
-enum-known-ran-2 : tie.Need-enum-known-ran-2
-enum-known-ran-2 c = search needs
-
-fill-requires : tie.Need-fill-requires
-fill-requires c κs = search needs
-
-fill-sets-requires : tie.Need-fill-sets-requires
-fill-sets-requires c κs = search needs
-
-enum-known-ran-3 : tie.Need-enum-known-ran-3
-enum-known-ran-3 c = search needs
-
-fill-requires-2 : tie.Need-fill-requires-2
-fill-requires-2 c κs = search needs
-
-fill-sets-requires-2 : tie.Need-fill-sets-requires-2
-fill-sets-requires-2 c κs = search needs
+    l .with-inequalities .ensures
+    ∙ run-answer (a .n) (a .m) (a .equations .now) (substitution q) (marks q) (wayBack q) (reasons q) (steps r) (done r)
+    (a .k) (rowsOf (suc (a .n)) (a .k) (a .inequalities .now))
 
 same-length-8 : tie.Need-same-length-8
 same-length-8 c = search needs
@@ -120,14 +104,13 @@ same-length-14 c = search needs
 
 returns-2 : tie.Need-returns-2
 returns-2 c =
-    let w = c .before .before .before .before .before .before in
-    let r = ran w in
-    let q = run r in
-    let a = entry q .args in
-    open-answer (a .n) (a .m) (a .equations .now) (substitution q) (marks q) (wayBack q) (reasons q) (steps r) (done r)
-    (a .k) (a .inequalities .now) (w .work-rows .last .0) (w .work-rows .last .1 .0)
-    (worked w 0 (c .before .before .if1 .left)) (tightened-long w) (c .look .ensures)
-    (conflict-blank r) (substitution-long q) (wayBack-long q) (reasons-long q)
+    let q = c .before .before .before .before .before .before .before .before .before .before .before .before .before .before .before .before in
+    let s = entry q in
+    let said = sym (ap outcomeOf (c .before .before .before .before .before .before .before .before .ran2 .given .1)) ∙ q .eliminate .ensures .0 in
+    after-run q said
+    (c .before .before .before .before .before .fill .ensures ∙ ap (λ (l : ℕ). replicate l (pos 0)) (s .pre .1 .1 .1))
+    (c .before .before .fill-sets .ensures ∙ ap (λ (l : ℕ). replicate l 0) (s .pre .1 .1 .2))
+    (subst NotOpen said tt)
 
 same-length-15 : tie.Need-same-length-15
 same-length-15 c = search needs
@@ -154,37 +137,6 @@ returns-3 : tie.Need-returns-3
 returns-3 c =
     let q = c .before .before .before .before .before .before .before .before .before .before .before .before .before .before .before .before in
     let s = entry q in
-    let said = sym (ap outcomeOf (c .before .before .before .before .before .before .before .before .ran2 .given .1)) ∙ q .eliminate .ensures .0 in
-    after-run q said
-    (c .before .before .before .before .before .fill .ensures ∙ ap (λ (l : ℕ). replicate l (pos 0)) (s .pre .1 .1 .1))
-    (c .before .before .fill-sets .ensures ∙ ap (λ (l : ℕ). replicate l 0) (s .pre .1 .1 .2))
-    (subst NotOpen said tt)
-
-same-length-22 : tie.Need-same-length-22
-same-length-22 c = search needs
-
-same-length-23 : tie.Need-same-length-23
-same-length-23 c = search needs
-
-same-length-24 : tie.Need-same-length-24
-same-length-24 c = search needs
-
-same-length-25 : tie.Need-same-length-25
-same-length-25 c = search needs
-
-same-length-26 : tie.Need-same-length-26
-same-length-26 c = search needs
-
-same-length-27 : tie.Need-same-length-27
-same-length-27 c = search needs
-
-same-length-28 : tie.Need-same-length-28
-same-length-28 c = search needs
-
-returns-4 : tie.Need-returns-4
-returns-4 c =
-    let q = c .before .before .before .before .before .before .before .before .before .before .before .before .before .before .before .before in
-    let s = entry q in
     let said = sym (ap outcomeOf (c .before .before .before .before .before .before .before .before .ran3 .given .1)) ∙ q .eliminate .ensures .0 in
     after-run q said
     (c .before .before .before .before .before .fill2 .ensures ∙ ap (λ (l : ℕ). replicate l (pos 0)) (s .pre .1 .1 .1))
@@ -197,8 +149,13 @@ solve-good-spec =
     (tie.spec
     eliminate-requires
     enum-known-ran
-    work-rows-requires
-    clear-requires
+    with-inequalities-requires
+    enum-known-ran-2
+    fill-requires
+    fill-sets-requires
+    enum-known-ran-3
+    fill-requires-2
+    fill-sets-requires-2
     same-length
     same-length-2
     same-length-3
@@ -207,13 +164,6 @@ solve-good-spec =
     same-length-6
     same-length-7
     returns
-    look-requires
-    enum-known-ran-2
-    fill-requires
-    fill-sets-requires
-    enum-known-ran-3
-    fill-requires-2
-    fill-sets-requires-2
     same-length-8
     same-length-9
     same-length-10
@@ -229,12 +179,4 @@ solve-good-spec =
     same-length-19
     same-length-20
     same-length-21
-    returns-3
-    same-length-22
-    same-length-23
-    same-length-24
-    same-length-25
-    same-length-26
-    same-length-27
-    same-length-28
-    returns-4)
+    returns-3)

@@ -1,4 +1,4 @@
--- The places of `solver::solve_good`: what holds after the run, where it finished, and after the work on the inequalities.
+-- The places of `solver::solve_good`: what holds after the run, and where it finished.
 use mathlib.Core.Path.{_≡_, _∙_, subst}
 use mathlib.Core.Bool.{true}
 use mathlib.Core.List.{List}
@@ -12,11 +12,10 @@ use Rattle.rules.specs.Elimination.{finished, elimination}
 use Rattle.rules.specs.Outcomes.{afterRun}
 use Rattle.elimination.specs.declared.Ran.{Ran}
 use Rattle.elimination.specs.Ran.{stateOf, FinishedAs}
-use Rattle.tightening.specs.Shown.{shownState, rowsShown, rowsWorked}
 use Rattle.solver.specs.Answered.{answer}
 use Rattle.solver.proofs.Tabled.{same-answer}
 use Rattle.solver.proofs.Ended.{NotOpen, alone, after-end, no-conflict}
-use Rattle.solver.proofs.Finished.{substitution-within, tightened-within}
+use Rattle.solver.proofs.Finished.{substitution-within}
 use Rattle.solver.proofs.solve_good.Tie as tie
 
 -- ---- after the run: its tables, of the lengths that they came with
@@ -49,9 +48,6 @@ wayBack-long q = q .eliminate .kept .1 .1 .1 .0 ∙ entry q .pre .1 .0 .3
 
 pub reasons-long : (q : tie.After-eliminate) → length (reasons q) ≡ entry q .args .n * suc (entry q .args .m)
 reasons-long q = q .eliminate .kept .1 .1 .1 .1 .0 ∙ entry q .pre .1 .0 .4
-
-pub conflict-long : (q : tie.After-eliminate) → length (conflict q) ≡ suc (entry q .args .m)
-conflict-long q = q .eliminate .kept .1 .1 .1 .1 .1 .0 ∙ entry q .pre .1 .1 .0
 
 -- where the run ended otherwise, its tables are those of the answer, with zeros for the inequalities
 pub after-run : {outcome : Outcome} {tightened : List ℤ} {used : List ℕ} (q : tie.After-eliminate) → let a = entry q .args in
@@ -98,28 +94,3 @@ conflict-blank r =
     q .eliminate .ensures .1 .1 .1 .1 .0 .1
     ∙ no-conflict (a .n) (a .m) (stateOf (a .n) (a .m) (substitution q) (marks q) (wayBack q) (reasons q) (steps r))
     (elimination (a .n) (a .m) (rowsOf (suc (a .n)) (a .m) (a .equations .now))) (done r)
-
--- ---- after the work on the inequalities, of which there are as many as sets
-abbrev pub ran : tie.After-work-rows → tie.After-ran
-ran w = w .before .before .before .before .before .before .before
-
-pub tightened-long : (w : tie.After-work-rows) → let a = entry (run (ran w)) .args in
-    length (w .work-rows .last .0) ≡ a .k * suc (a .n)
-tightened-long w = w .work-rows .kept .0 ∙ entry (run (ran w)) .pre .1 .1 .1
-
-pub used-long : (w : tie.After-work-rows) → length (w .work-rows .last .1 .0) ≡ entry (run (ran w)) .args .k
-used-long w = w .work-rows .kept .1 .0 ∙ entry (run (ran w)) .pre .1 .1 .2
-
-pub worked : (w : tie.After-work-rows) (bad : ℕ) → w .work-rows .result ≡ bad
-    → let q = run (ran w) in let a = entry q .args in
-    rowsShown (a .n) (a .k) bad (w .work-rows .last .0) (w .work-rows .last .1 .0)
-    ≡ rowsWorked (a .n) (a .m) (shownState (a .n) (a .m) (substitution q) (marks q) (reasons q)) (rowsOf (suc (a .n)) (a .k) (a .inequalities .now))
-worked w bad e = rw (e, entry (run (ran w)) .pre .1 .1 .2) at (w .work-rows .ensures)
-
-pub rows-inside : (w : tie.After-work-rows) → w .work-rows .result ≡ 0 → allWithin (w .work-rows .last .0) ≡ true
-rows-inside w e =
-    let r = ran w in
-    let q = run r in
-    let a = entry q .args in
-    tightened-within (a .n) (a .m) (a .equations .now) (substitution q) (marks q) (wayBack q) (reasons q) (steps r) (done r)
-    (a .k) (a .inequalities .now) (w .work-rows .last .0) (w .work-rows .last .1 .0) (worked w 0 e) (tightened-long w)

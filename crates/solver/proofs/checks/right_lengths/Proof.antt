@@ -1,4 +1,4 @@
--- `solver::right_lengths` meets its contract: the code's conjunctions stand the other way round, and it writes n + 1 for suc n.
+-- `solver::checks::right_lengths` meets its contract: the code's conjunctions stand the other way round, and it writes n + 1 for suc n.
 use mathlib.Core.Bool.{and-assoc}
 use Prim.Native.Nat.{ℕ, _+_, _*_, _≤_}
 use native.Mathlib.Nat.{mul-le-mul}
@@ -7,8 +7,8 @@ use native.Mathlib.Omega.{arith}
 use borrow.Author.Needs.{needs}
 use mir.Syntax.{w64}
 use mir.Val.{Fits}
-use Rattle.solver.proofs.right_lengths.Statement.{statement}
-use Rattle.solver.proofs.right_lengths.Tie as tie
+use Rattle.solver.proofs.checks.right_lengths.Statement.{statement}
+use Rattle.solver.proofs.checks.right_lengths.Tie as tie
 
 -- a table has at most 64 rows of 33 numbers
 fits : (a b : ℕ) → a ≤ 64 → b ≤ 32 → Fits w64 (a * (b + 1))
