@@ -1,0 +1,5 @@
+-- Laws of the two passes over a text.
+mod Scanned
+mod Kept
+mod Entered
+mod Answered

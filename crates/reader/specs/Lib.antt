@@ -1,0 +1,2 @@
+-- What the reader's functions keep in bounds.
+pub mod Sound

@@ -1,0 +1,2 @@
+-- What is promised of the reader.
+pub mod Promised

@@ -1,0 +1,1 @@
+// The promises of the reader, as theorems about its definitions: proofs/ has them.
