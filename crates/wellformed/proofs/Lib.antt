@@ -12,3 +12,12 @@ pub mod Continuing
 pub mod Scanning
 pub mod Longest
 pub mod OutsideLimits
+pub mod Passages
+pub mod LinePieces
+pub mod LineNumbers
+pub mod LineKinds
+pub mod TextLines
+pub mod TextReads
+pub mod WellFormedRead
+pub mod PackedRows
+pub mod Promises
