@@ -5,11 +5,13 @@ use mathlib.Core.List.{List, [], _∷_}
 use Prim.Native.Nat.{ℕ, suc, _-_, _≤_}
 use native.Mathlib.Omega.{arith}
 use lib.Dec.{eqb, leb}
+use lib.IntN.{ℤ}
+use lib.ListN.{length}
 use borrow.Author.Tests.{leb-true}
 use Rattle.rules.specs.declared.Refusal.the-variants.{OutOfRange, Malformed}
 use Rattle.matrix.specs.Bytes.{lineFeed}
-use Rattle.matrix.specs.Machine.{step, onClass, onLineFeed, lineEnds, inPhase}
-use Rattle.matrix.specs.Reader.{isStart, isReturn, isDead, countsFit, beyond, counted, closed, atEnd, scan}
+use Rattle.matrix.specs.Machine.{begin, step, onClass, onLineFeed, lineEnds, inPhase}
+use Rattle.matrix.specs.Reader.{isStart, isReturn, isDead, countsFit, beyond, counted, closed, atEnd, scan, Read, filled, read}
 use Rattle.matrix.specs.declared.Machine.{Machine}
 use Rattle.matrix.specs.declared.Phase.{Phase}
 use Rattle.matrix.specs.declared.Phase.the-variants.{Start, Lead, Marked, Signed, Digits, Gap, Return, Comment, Dead}
@@ -89,3 +91,22 @@ unfolding scan
 scan-counted m place [] = end-counted m place
 scan-counted m place (b ∷ text) =
     pick (isDead (step m b .phase)) _ _ (λ _. tt) (λ _. pick (beyond (step m b)) _ _ (λ _. tt) (λ _. scan-counted (step m b) (suc place) text))
+
+filled-counted : (r : Reading) (text : List ℕ) → Counted r → Counted (filled r text .reading)
+unfolding filled
+filled-counted (System n m k) text c = c
+filled-counted (Unread refusal) text c = c
+
+choose : (t : Bool) (a b : Read) → Counted (a .reading) → Counted (b .reading) → Counted (cond t a b .reading)
+choose true a b p q = p
+choose false a b p q = q
+
+pub read-counted : (text : List ℕ) (e i : List ℤ) → Counted (read text e i .reading)
+unfolding read
+read-counted text e i =
+    choose
+    (eqb (length e) 1056 && eqb (length i) 2112)
+    _
+    _
+    (choose (leb (length text) 65536) _ _ (filled-counted (scan begin 0 text) text (scan-counted begin 0 text)) tt)
+    tt

@@ -2,4 +2,4 @@
 mod Scanned
 mod Kept
 mod Entered
-mod Answered
+pub mod Answered

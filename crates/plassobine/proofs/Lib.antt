@@ -1,0 +1,4 @@
+-- Laws of the whole program.
+mod Solved
+mod Replied
+mod Rooms

@@ -1,0 +1,102 @@
+-- What is written is the whole reply, since the page has room for the longest.
+use mathlib.Core.Bool.{Bool, true, false}
+use mathlib.Core.Path.{_≡_, refl, sym, ap, subst, _∙_}
+use mathlib.Core.List.{List, [], _∷_, _++_}
+use Prim.Native.Nat.{ℕ, suc, _+_, _*_, _≤_}
+use native.Mathlib.Numerals.{add-one}
+use native.Mathlib.Omega.{arith}
+use lib.Dec.{leb}
+use lib.IntN.{ℤ, pos}
+use lib.ListN.{length, take, replicate, length-replicate}
+use borrow.Author.Tests.{leb-true, leb-false}
+use Rattle.rows.specs.Row.{zeros}
+use Rattle.rules.specs.Outcomes.{solve, blank}
+use Rattle.rules.specs.declared.Refusal.{Refusal}
+use Rattle.rules.specs.declared.Outcome.the-variants.{Refused}
+use Rattle.matrix.specs.Poured.{Page, page, poured, written}
+use Rattle.matrix.specs.Reader.{Read, reply, read}
+use Rattle.matrix.specs.declared.Reading.{Reading}
+use Rattle.matrix.specs.declared.Reading.the-variants.{System, Unread}
+use Rattle.matrix.proofs.Counts.{Counted, read-counted}
+use Rattle.matrix.proofs.Written.{written-front, written-place}
+use Rattle.reader.proofs.Answered.{short-text, long-text}
+use Rattle.printer.specs.Printed.{printed, error}
+use Rattle.printer.proofs.Length.{printed-short}
+use Rattle.plassobine.specs.Program.{answered, replied, program}
+
+-- the front of what is poured is all of it, where there is room
+poured-front : {A : Type 0} (more table : List A) → length more ≤ length table → take (length more) (poured more table) ≡ more
+unfolding poured
+poured-front [] table h = refl
+poured-front (a ∷ more) [] h = absurd (omega arith)
+poured-front (a ∷ more) (old ∷ table) h = ap (λ (l : List _). a ∷ l) (poured-front more table (omega arith))
+
+length-poured : {A : Type 0} (more table : List A) → length (poured more table) ≡ length table
+unfolding poured
+length-poured [] table = refl
+length-poured (a ∷ more) [] = refl
+length-poured (a ∷ more) (old ∷ table) = ap suc (length-poured more table)
+
+-- what was written is what stands there, and no more
+pub all-written : (bytes cells exit : List ℕ) (place : ℕ) → length bytes ≤ length cells → page exit place ≡ written bytes (page cells 0)
+    → (take place exit ≡ bytes) × (place ≤ length exit)
+unfolding page
+all-written bytes cells exit place h e =
+    let long : place ≡ length bytes = ap (λ (p : Page ℕ). p .place) e ∙ written-place bytes cells 0 (omega arith) ∙ omega arith in
+    let laid : exit ≡ poured bytes cells = ap (λ (p : Page ℕ). p .cells) e ∙ written-front bytes cells in
+    (rw (long, laid) (poured-front bytes cells h), rw (long, laid, length-poured bytes cells) h)
+
+error-short : (refusal : Refusal) → length (error refusal) ≤ 98304
+unfolding printed
+error-short refusal = printed-short 0 0 0 (Refused refusal) (blank 0 0 0) (omega arith) (omega arith) (omega arith)
+
+replied-short : (r : Reading) (e i : List ℤ) → Counted r → length (replied r e i) ≤ 98304
+unfolding replied answered
+replied-short (System n m k) e i c =
+    let a = solve n m k (take (m * suc n) e) (take (k * suc n) i) (blank n m k) in printed-short n m k (a .outcome) (a .results) (c .1) (c .2) (c .3)
+replied-short (Unread refusal) e i c = error-short refusal
+
+-- ---- the program, by what the reader answers into tables of the right lengths
+
+read-fixed : (text : List ℕ) (e i : List ℤ) → 1056 ≡ length e → 2112 ≡ length i → read text e i ≡ read text (zeros 1056) (zeros 2112)
+unfolding zeros
+read-fixed text e i g h =
+    let g0 = length-replicate 1056 (pos 0) in
+    let h0 = length-replicate 2112 (pos 0) in
+    cases g0 h0 (leb (length text) 65536) refl
+  where
+    cases : length (replicate 1056 (pos 0)) ≡ 1056 → length (replicate 2112 (pos 0)) ≡ 2112 → (t : Bool) → leb (length text) 65536 ≡ t
+        → read text e i ≡ read text (replicate 1056 (pos 0)) (replicate 2112 (pos 0))
+    cases g0 h0 true t =
+        let short = leb-true (length text) 65536 t in
+        short-text text e i (sym g) (sym h) short ∙ sym (short-text text (replicate 1056 (pos 0)) (replicate 2112 (pos 0)) g0 h0 short)
+    cases g0 h0 false t =
+        let long = leb-false (length text) 65536 t in
+        long-text text e i (sym g) (sym h) long ∙ sym (long-text text (replicate 1056 (pos 0)) (replicate 2112 (pos 0)) g0 h0 long)
+
+-- what was read, and the tables then
+program-is : (text : List ℕ) (e i : List ℤ) (reading : Reading) (e′ i′ : List ℤ) → 1056 ≡ length e → 2112 ≡ length i
+    → reply reading e′ i′ ≡ read text e i → program text ≡ replied reading e′ i′
+unfolding program
+program-is text e i reading e′ i′ g h r =
+    ap (λ (x : Read). replied (x .reading) (x .equations) (x .inequalities)) (sym (read-fixed text e i g h) ∙ sym r)
+
+pub program-system : (text : List ℕ) (e i : List ℤ) (reading : Reading) (e′ i′ : List ℤ) (n m k : ℕ) → 1056 ≡ length e → 2112 ≡ length i
+    → reply reading e′ i′ ≡ read text e i → reading ≡ System n m k → program text ≡ answered n m k (take (m * (n + 1)) e′) (take (k * (n + 1)) i′)
+unfolding replied
+program-system text e i reading e′ i′ n m k g h r is =
+    program-is text e i reading e′ i′ g h r ∙ ap (λ (x : Reading). replied x e′ i′) is
+    ∙ ap (λ (w : ℕ). answered n m k (take (m * w) e′) (take (k * w) i′)) (sym (add-one n))
+
+pub program-unread : (text : List ℕ) (e i : List ℤ) (reading : Reading) (e′ i′ : List ℤ) (refusal : Refusal) → 1056 ≡ length e → 2112 ≡ length i
+    → reply reading e′ i′ ≡ read text e i → reading ≡ Unread refusal → program text ≡ error refusal
+unfolding replied
+program-unread text e i reading e′ i′ refusal g h r is = program-is text e i reading e′ i′ g h r ∙ ap (λ (x : Reading). replied x e′ i′) is
+
+pub counted-reading : (text : List ℕ) (e i : List ℤ) (reading : Reading) (e′ i′ : List ℤ) → reply reading e′ i′ ≡ read text e i → Counted reading
+counted-reading text e i reading e′ i′ r = subst (λ (x : Reading). Counted x) (sym (ap (λ (x : Read). x .reading) r)) (read-counted text e i)
+
+pub program-short : (text : List ℕ) → length (program text) ≤ 98304
+unfolding program
+program-short text =
+    let r = read text (zeros 1056) (zeros 2112) in replied-short (r .reading) (r .equations) (r .inequalities) (read-counted text (zeros 1056) (zeros 2112))
