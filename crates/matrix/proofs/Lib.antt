@@ -1,4 +1,7 @@
--- Laws of bytes and of what is written over a lent table, for the crates above.
+-- Laws of bytes, of counts, of what is written over a lent table and of what is printed, for the crates above.
 pub mod Classes
-pub mod Written
 pub mod Counts
+pub mod Written
+pub mod Joined
+pub mod Spaced
+pub mod Length

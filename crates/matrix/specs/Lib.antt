@@ -4,3 +4,4 @@ pub mod Machine
 pub mod Reader
 pub mod Grammar
 pub mod Poured
+pub mod Printed

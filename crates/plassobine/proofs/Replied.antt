@@ -20,8 +20,8 @@ use Rattle.matrix.specs.declared.Reading.the-variants.{System, Unread}
 use Rattle.matrix.proofs.Counts.{Counted, read-counted}
 use Rattle.matrix.proofs.Written.{written-front, written-place}
 use Rattle.reader.proofs.Answered.{short-text, long-text}
-use Rattle.printer.specs.Printed.{printed, error}
-use Rattle.printer.proofs.Length.{printed-short}
+use Rattle.matrix.specs.Printed.{printed, error}
+use Rattle.matrix.proofs.Length.{printed-short}
 use Rattle.plassobine.specs.Program.{answered, replied, program}
 
 -- the front of what is poured is all of it, where there is room

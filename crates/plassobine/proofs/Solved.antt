@@ -13,7 +13,7 @@ use Rattle.rules.specs.declared.Outcome.{Outcome}
 use Rattle.rules.specs.declared.Outcome.the-variants.{Open, EquationConflict, OneRowConflict, TwoRowConflict, Refused}
 use Rattle.solver.specs.Answered.{tables}
 use Rattle.solver.proofs.Called.{right-length}
-use Rattle.printer.specs.Printed.{printed}
+use Rattle.matrix.specs.Printed.{printed}
 use Rattle.plassobine.specs.Program.{answered}
 
 -- only these are printed

@@ -8,7 +8,7 @@ use Rattle.rules.specs.Outcomes.{solve, blank}
 use Rattle.matrix.specs.Reader.{read, Read}
 use Rattle.matrix.specs.declared.Reading.{Reading}
 use Rattle.matrix.specs.declared.Reading.the-variants.{System, Unread}
-use Rattle.printer.specs.Printed.{printed, error}
+use Rattle.matrix.specs.Printed.{printed, error}
 
 -- the answer to a system
 unfoldable pub answered : ℕ → ℕ → ℕ → List ℤ → List ℤ → List ℕ

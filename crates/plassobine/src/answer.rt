@@ -141,7 +141,7 @@ fn reply(text: &[u8], page: &mut [u8]) -> usize
             &inequalities[..k * (n + 1)],
             page,
         ),
-        Reading::Unread(refusal) => printer::error(page, 0, refusal),
+        Reading::Unread(refusal) => print_errors::error(page, 0, refusal),
     }
 }
 

@@ -4,14 +4,14 @@ ghost use mathlib.Core.List.{[], _++_};
 ghost use Prim.Native.Nat.{suc, _-_, _≤_, _*_};
 ghost use lib.ListN.{length, getD, take};
 ghost use Rattle.matrix.specs.Poured.{page as pageOf, written};
-ghost use Rattle.printer.specs.Printed.{unsat, openWord, namesOfMultipliers, namesOfRow, namesOfRows, solvedMatrix, tightenedMatrix, printed};
+ghost use Rattle.matrix.specs.Printed.{unsat, openWord, namesOfMultipliers, namesOfRow, namesOfRows, solvedMatrix, tightenedMatrix, printed};
 ghost use Rattle.solver.specs.Answered.{tables as tablesOf};
-use printer::matrices::solved_matrix;
-use printer::matrices::tightened_matrix;
-use printer::names::names_of_multipliers;
-use printer::names::names_of_row;
-use printer::names::names_of_rows;
-use printer::numbers::put_bytes;
+use print_matrices::solved_matrix;
+use print_matrices::tightened_matrix;
+use print_names::names_of_multipliers;
+use print_names::names_of_row;
+use print_names::names_of_rows;
+use print_numbers::put_bytes;
 use rules::Outcome;
 
 fn used_at(used: &[u64], at: usize) -> u64
@@ -113,6 +113,6 @@ pub fn print(
         Outcome::EquationConflict { row: _, steps: _ } => print_equations(m, conflict, page),
         Outcome::OneRowConflict { i, steps: _ } => print_row(m, i, used, page),
         Outcome::TwoRowConflict { i, j, steps: _ } => print_rows(m, i, j, used, page),
-        Outcome::Refused(refusal) => printer::error(page, 0, refusal),
+        Outcome::Refused(refusal) => print_errors::error(page, 0, refusal),
     }
 }

@@ -7,8 +7,8 @@ ghost use lib.ListN.{length, getD};
 ghost use Rattle.matrix.specs.Bytes.{lineFeed};
 ghost use Rattle.matrix.specs.Poured.{poured, page, put};
 ghost use Rattle.matrix.specs.Reader.{isDigits, entryOf, ends as endsOf, numbersOf};
-use crate::machine::step;
 use crate::scan::begin;
+use machine::step;
 use matrix::Machine;
 use matrix::Phase;
 

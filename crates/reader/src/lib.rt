@@ -8,8 +8,6 @@ ghost use Rattle.matrix.specs.Reader.{scan as scanOf, filled, reply, read as re
 ghost use Rattle.reader.specs.Sound.{isSystem};
 
 mod entries;
-mod machine;
-mod moves;
 mod scan;
 
 use matrix::Reading;

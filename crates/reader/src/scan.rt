@@ -1,12 +1,11 @@
 // The first pass: whether the text is a system, or where it stops being one.
 ghost use mathlib.Core.Path.{_≡_};
-ghost use Prim.Native.Nat.{_≤_};
+ghost use Prim.Native.Nat.{_-_, _≤_};
 ghost use lib.ListN.{length};
 ghost use Rattle.matrix.specs.Machine.{begin as beginOf};
 ghost use Rattle.matrix.specs.Reader.{isStart, isReturn, isDead, countsFit, beyond as beyondOf, counted as countedOf, closed as closedOf, atEnd, scan as scanOf};
 ghost use Rattle.reader.specs.Sound.{Sound};
-use crate::machine::step;
-use crate::moves::less_one;
+use machine::step;
 use matrix::Machine;
 use matrix::Phase;
 use matrix::Reading;
@@ -104,13 +103,20 @@ fn beyond(m: Machine) -> bool
     false
 }
 
+// The columns but the mark's and the constant's.
+fn variables(columns: usize) -> usize
+    ensures { λ r. ⌜ r ≡ columns - 2 ⌝ }
+{
+    if columns < 2 { 0 } else { columns - 2 }
+}
+
 // The system that a whole text says, if it has not too many rows of a kind.
 fn counted(m: Machine) -> Reading
     ensures { λ r. ⌜ r ≡ countedOf m ⌝ }
 {
     if m.equations <= 32 {
         if m.inequalities <= 64 {
-            let n = less_one(less_one(m.columns));
+            let n = variables(m.columns);
             return Reading::System {
                 n,
                 m: m.equations,

@@ -1,5 +1,5 @@
 -- `print::print` meets its contract: in each kind of outcome the definition computes.
-use Rattle.printer.specs.Printed.{printed}
+use Rattle.matrix.specs.Printed.{printed}
 use borrow.Author.Needs.{needs}
 use Rattle.plassobine.proofs.print.print.Statement.{statement}
 use Rattle.plassobine.proofs.print.print.Tie as tie

@@ -2,7 +2,7 @@
 use mathlib.Core.Path.{sym}
 use native.Mathlib.Omega.{arith}
 use lib.Seq.{length-take-le}
-use Rattle.printer.proofs.Joined.{join}
+use Rattle.matrix.proofs.Joined.{join}
 use borrow.Author.Needs.{needs}
 use Rattle.plassobine.proofs.print.print_equations.Statement.{statement}
 use Rattle.plassobine.proofs.print.print_equations.Tie as tie

@@ -1,5 +1,5 @@
 -- `print::print_open` meets its contract: the word, then the two matrices.
-use Rattle.printer.proofs.Joined.{join}
+use Rattle.matrix.proofs.Joined.{join}
 use borrow.Author.Needs.{needs}
 use Rattle.plassobine.proofs.print.print_open.Statement.{statement}
 use Rattle.plassobine.proofs.print.print_open.Tie as tie

@@ -1,5 +1,5 @@
 -- `print::print_rows` meets its contract: the word, then the names.
-use Rattle.printer.proofs.Joined.{join}
+use Rattle.matrix.proofs.Joined.{join}
 use borrow.Author.Needs.{needs}
 use Rattle.plassobine.proofs.print.print_rows.Statement.{statement}
 use Rattle.plassobine.proofs.print.print_rows.Tie as tie

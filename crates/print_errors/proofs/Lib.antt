@@ -1,0 +1,2 @@
+-- Laws of the line of a refusal.
+mod Refusals

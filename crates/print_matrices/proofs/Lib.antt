@@ -1,0 +1,3 @@
+-- Laws of open columns and of the lines of a matrix.
+mod Columns
+mod Lines

@@ -1,0 +1,116 @@
+-- `print_matrices::tightened_matrix` meets its contract: behind the header, the lines from row i on, written here, come to all of them.
+use mathlib.Core.Path.{_≡_, refl}
+use Prim.Native.Nat.{suc, _+_, _*_, _-_, _≤_}
+use lib.ListN.{length}
+use Rattle.matrix.specs.Poured.{page, written}
+use Rattle.matrix.specs.Printed.{openColumns, headerLine, tightenedLine, tightenedMatrix}
+use Rattle.matrix.proofs.Joined.{join, ahead, done}
+use Rattle.print_matrices.proofs.Lines.{linesAhead, lines-none, lines-more, row-fits, row-lent, row-length}
+use borrow.Author.Needs.{needs}
+use native.Mathlib.Omega.{arith}
+use Rattle.print_matrices.proofs.tightened_matrix.Statement.{statement}
+use Rattle.print_matrices.proofs.tightened_matrix.Tie as tie
+
+abbrev Inv-loop : tie.InvT-loop
+Inv-loop out₀ place n k marks tightened w to₀ i₀ out to i = (i ≤ k) × (length out ≡ length out₀) × (written (linesAhead (λ _. tightenedLine marks) (suc n) k tightened i) (page out to) ≡ written (linesAhead (λ _. tightenedLine marks) (suc n) k tightened 0) (page out₀ to₀))
+
+abbrev μ-loop : tie.MeasureT-loop
+μ-loop out₀ place n k marks tightened w to₀ i₀ out to i = k - i
+
+-- the row of a turn lies within the table
+within-table : (c : tie.In-loop Inv-loop μ-loop) → let l = c .before in let a = l .before .before .before .before .before .before .before .before .args in
+    l .loop .i * (a .n + 1) + (a .n + 1) ≤ length (a .tightened .now)
+within-table c =
+    let l = c .before in
+    let s = l .before .before .before .before .before .before .before .before in
+    row-fits (s .args .n) (s .args .k) (l .loop .i) (s .args .tightened .now) (c .loop-test .taken) (s .pre .2)
+
+add-w : tie.Need-add-w Inv-loop μ-loop
+add-w c = search needs
+
+open-columns-requires : tie.Need-open-columns-requires Inv-loop μ-loop
+open-columns-requires c κs = search needs
+
+add-header-line : tie.Need-add-header-line Inv-loop μ-loop
+add-header-line c = search needs
+
+header-line-requires : tie.Need-header-line-requires Inv-loop μ-loop
+header-line-requires c κs = search needs
+
+loop-holds : tie.Need-loop-holds Inv-loop μ-loop
+loop-holds c = (omega arith, refl, refl)
+
+mul-from : tie.Need-mul-from Inv-loop μ-loop
+mul-from c = let h = within-table c in omega arith
+
+add-tightened-line : tie.Need-add-tightened-line Inv-loop μ-loop
+add-tightened-line c = let h = within-table (c .before) in omega arith
+
+mul-tightened-line : tie.Need-mul-tightened-line Inv-loop μ-loop
+mul-tightened-line c = let h = within-table (c .before) in omega arith
+
+sub-tightened-line : tie.Need-sub-tightened-line Inv-loop μ-loop
+sub-tightened-line c = search needs
+
+part-tightened-line-start : tie.Need-part-tightened-line-start Inv-loop μ-loop
+part-tightened-line-start c = search needs
+
+part-tightened-line-end : tie.Need-part-tightened-line-end Inv-loop μ-loop
+part-tightened-line-end c = let h = within-table (c .before) in omega arith
+
+tightened-line-requires : tie.Need-tightened-line-requires Inv-loop μ-loop
+tightened-line-requires c κs =
+    let s = c .before .before .before .before .before .before .before .before .before .before .before in
+    let a = s .args in
+    rw (s .pre .1) (row-length (a .n) (a .k) (c .before .before .before .loop .i) (a .tightened .now) (c .before .before .loop-test .taken) (s .pre .2))
+
+add-i : tie.Need-add-i Inv-loop μ-loop
+add-i c = search needs
+
+loop-less : tie.Need-loop-less Inv-loop μ-loop
+loop-less c = search needs
+
+loop-again : tie.Need-loop-again Inv-loop μ-loop
+loop-again c =
+    let l = c .before .before .before .before .before .before in
+    let a = l .before .before .before .before .before .before .before .before .args in
+    let i = l .loop .i in
+    let more = lines-more (λ _. tightenedLine (a .marks .now)) (suc (a .n)) (a .k) (a .tightened .now) i (c .before .before .before .before .before .loop-test .taken) in
+    let wrote = rw (row-lent (a .n) i (a .tightened .now)) at (c .before .before .tightened-line .ensures) in
+    (omega arith, omega arith, ahead _ _ _ _ more wrote (l .loop .inv .2))
+
+same-length : tie.Need-same-length Inv-loop μ-loop
+same-length c = search needs
+
+returns : tie.Need-returns Inv-loop μ-loop
+unfolding tightenedMatrix
+returns c =
+    let l = c .before in
+    let a = l .before .before .before .before .before .before .before .before .args in
+    let none = lines-none (λ _. tightenedLine (a .marks .now)) (suc (a .n)) (a .k) (a .tightened .now) (l .loop .i) (c .loop-test .left) in
+    let header = rw (c .before .before .before .before .before .open-columns .ensures .0) at (c .before .before .before .before .header-line .ensures) in
+    join (headerLine (a .k) (openColumns (a .marks .now) + 2)) _ _ header (done _ _ none (l .loop .inv .2))
+
+pub tightened-matrix-spec : {M : Type 1} → statement M
+tightened-matrix-spec =
+    tie.close
+    (tie.spec
+    Inv-loop
+    μ-loop
+    add-w
+    open-columns-requires
+    add-header-line
+    header-line-requires
+    loop-holds
+    mul-from
+    add-tightened-line
+    mul-tightened-line
+    sub-tightened-line
+    part-tightened-line-start
+    part-tightened-line-end
+    tightened-line-requires
+    add-i
+    loop-less
+    loop-again
+    same-length
+    returns)

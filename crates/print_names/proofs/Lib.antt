@@ -1,0 +1,2 @@
+-- Laws of the names that are still to come.
+mod NamesAhead

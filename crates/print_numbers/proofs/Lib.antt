@@ -1,0 +1,3 @@
+-- Laws of digits and signs.
+mod Digits
+pub mod Signs
