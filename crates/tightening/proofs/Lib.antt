@@ -1,8 +1,4 @@
--- Laws of the functions on inequalities.
-pub mod Zeros
+-- Laws of the parts of the work on one inequality.
 pub mod Reasons
 pub mod OpenColumns
 pub mod TightRow
-pub mod FirstRows
-pub mod Conflicts
-pub mod WorkedRows

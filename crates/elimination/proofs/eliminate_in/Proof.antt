@@ -3,9 +3,9 @@ use mathlib.Core.Path.{_≡_, sym, ap, _∙_, subst}
 use Prim.Native.Nat.{ℕ, suc, _*_}
 use lib.ListN.{length, replicate, length-replicate}
 use lib.IntN.{pos}
-use Rattle.elimination.specs.declared.Ran.{Ran}
-use Rattle.elimination.specs.declared.Ran.the-variants.{Finished, Conflict, Grown}
-use Rattle.elimination.specs.Ran.{ranShown, EndsWithD}
+use Rattle.all_rows.specs.declared.Ran.{Ran}
+use Rattle.all_rows.specs.declared.Ran.the-variants.{Finished, Conflict, Grown}
+use Rattle.all_rows.specs.Ran.{ranShown, EndsWithD}
 use Rattle.elimination.proofs.Begun.{unitTable, working-from, results-from, run-from}
 use Rattle.elimination.proofs.Ended.{ended, asked-finished, asked-conflict, asked-grown}
 use borrow.Author.Needs.{needs}

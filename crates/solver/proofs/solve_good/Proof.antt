@@ -6,9 +6,9 @@ use borrow.Author.Needs.{needs}
 use lib.ListN.{replicate}
 use lib.IntN.{pos}
 use Rattle.rows.specs.Table.{rowsOf}
-use Rattle.elimination.specs.Ran.{outcomeOf}
+use Rattle.elimination.specs.Eliminated.{outcomeOf}
 use Rattle.solver.proofs.Ended.{NotOpen}
-use Rattle.solver.proofs.Finished.{run-answer}
+use Rattle.outcomes.proofs.Finished.{run-answer}
 use Rattle.solver.proofs.solve_good.Statement.{statement}
 use Rattle.solver.proofs.solve_good.Tie as tie
 use Rattle.solver.proofs.solve_good.Proof.Places.{entry, substitution, marks, wayBack, reasons, substitution-long, marks-long, wayBack-long, reasons-long, after-run}

@@ -1,7 +1,7 @@
 -- `solver::solve_long` meets its contract: at refusal 3 the tables hold zeros, else the run answers.
 use mathlib.Core.Path.{refl, sym, _∙_}
 use borrow.Author.Needs.{needs}
-use Rattle.solver.proofs.Tabled.{all-blank}
+use Rattle.outcomes.proofs.Tabled.{all-blank}
 use Rattle.solver.proofs.Called.{entries-good, entries-bad, all-good}
 use Rattle.solver.proofs.solve_long.Statement.{statement}
 use Rattle.solver.proofs.solve_long.Tie as tie

@@ -9,7 +9,7 @@ use lib.ListN.{length, getD}
 use lib.IntN.{pos}
 use Rattle.rows.specs.Row.{at}
 use Rattle.rows.proofs.Lists.{row-end}
-use Rattle.tightening.proofs.Zeros.{zero-read, nonzero-read}
+use Rattle.looks.proofs.Zeros.{zero-read, nonzero-read}
 use Rattle.tightening.proofs.Reasons.{restsFrom, rests-start, rests-none, rests-here, rests-later}
 use Rattle.tightening.proofs.rests_on.Statement.{statement}
 use Rattle.tightening.proofs.rests_on.Tie as tie
