@@ -17,7 +17,7 @@ use Rattle.rules.specs.Elimination.{State, Carried, work, inOrder, Worked, pass
 use Rattle.rules.proofs.Within.{Within, AllWithin, StateWithin, Passes, work-within}
 use Rattle.steps.specs.Shown.{carriedOf, laterOf, Divisors}
 use Rattle.closing.proofs.ShutTables.{rest-back, divisors-behind}
-use Rattle.one_row.specs.Worked.{stateOf, inHand, Working3, Results4}
+use Rattle.stepping.specs.Worked.{stateOf, inHand, Working3, Results4}
 use Rattle.one_row.proofs.Starts.{hand-within}
 use Rattle.all_rows.proofs.OrderRows.{passed-steps, unmet-small}
 

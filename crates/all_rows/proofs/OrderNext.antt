@@ -14,7 +14,7 @@ use Rattle.rows.proofs.TableLaws.{flat-rowsOf}
 use Rattle.rules.specs.Elimination.{work, passed, Ended}
 use Rattle.steps.specs.Shown.{laterOf}
 use Rattle.closing.proofs.ShutTables.{rest-lent, rows-behind}
-use Rattle.one_row.specs.Worked.{stateOf, Working3, Results4}
+use Rattle.stepping.specs.Worked.{stateOf, Working3, Results4}
 use Rattle.all_rows.proofs.Order.{Ahead, tables-within, next-tail, row-inside, multipliers-inside, there, handAt, laterAt, answered, leaves, steps-few}
 
 -- a list with other numbers from place a on

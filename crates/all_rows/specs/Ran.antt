@@ -6,7 +6,7 @@ use lib.ListN.{take}
 use lib.IntN.{ℤ, pos, natAbs}
 use Rattle.rows.specs.Row.{at}
 use Rattle.rules.specs.Elimination.{Ended, finished, conflicting, tooLarge}
-use Rattle.one_row.specs.Worked.{stateOf}
+use Rattle.stepping.specs.Worked.{stateOf}
 use Rattle.all_rows.specs.declared.Ran.{Ran}
 use Rattle.all_rows.specs.declared.Ran.the-variants.{Finished, Conflict, Grown}
 

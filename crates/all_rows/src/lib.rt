@@ -5,9 +5,9 @@ ghost use lib.ListN.{length};
 ghost use Rattle.rows.specs.Row.{allWithin};
 ghost use Rattle.rules.specs.Elimination.{inOrder};
 ghost use Rattle.all_rows.specs.Ran.{ranShown, EndsWithD};
-ghost use Rattle.one_row.specs.Worked.{stateOf, Working3, Results4};
+ghost use Rattle.stepping.specs.Worked.{stateOf, Working3, Results4};
 ghost use Rattle.steps.specs.Shown.{carriedOf};
-use one_row::Working;
+use stepping::Working;
 
 // The answer of the run: finished with its steps, a conflict in a row, or a number that has grown too large.
 pub enum Ran {
@@ -57,7 +57,7 @@ pub fn in_order(
                 steps = next;
             }
             Working::Unmet(d, done) => {
-                tables::copy(&mut conflict[..m], &multipliers[b..b + m]);
+                copying::copy(&mut conflict[..m], &multipliers[b..b + m]);
                 conflict[m] = whole::signed(d);
                 return Ran::Conflict {
                     row: j + 1,

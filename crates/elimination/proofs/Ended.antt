@@ -16,7 +16,7 @@ use Rattle.rules.specs.Inequalities.{firstRow, firstPair}
 use Rattle.rules.specs.Outcomes.{Answer, afterRun, withInequalities, lookedAt, allFilled, conflictFilled, blank}
 use Rattle.all_rows.specs.declared.Ran.{Ran}
 use Rattle.all_rows.specs.declared.Ran.the-variants.{Finished, Conflict, Grown}
-use Rattle.one_row.specs.Worked.{stateOf}
+use Rattle.stepping.specs.Worked.{stateOf}
 use Rattle.elimination.specs.Eliminated.{outcomeOf, eliminated, FinishedAs}
 
 module _ (n m : ℕ) (equations : List ℤ) where

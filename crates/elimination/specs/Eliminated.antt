@@ -9,7 +9,7 @@ use Rattle.rules.specs.declared.Outcome.the-variants.{Open, EquationConflict, R
 use Rattle.rules.specs.declared.Refusal.the-variants.{TooLarge}
 use Rattle.rules.specs.Elimination.{finished, elimination}
 use Rattle.rules.specs.Outcomes.{Answer, afterRun}
-use Rattle.one_row.specs.Worked.{stateOf}
+use Rattle.stepping.specs.Worked.{stateOf}
 use Rattle.all_rows.specs.declared.Ran.{Ran}
 use Rattle.all_rows.specs.declared.Ran.the-variants.{Finished, Conflict, Grown}
 

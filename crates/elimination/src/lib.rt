@@ -31,9 +31,9 @@ fn eliminate_in(
     ensures reasons { λ r. ⌜ (now (reasons .exit) ≡ eliminated n m (now (equations .entry)) .results .reasons) × (now (conflict .exit) ≡ eliminated n m (now (equations .entry)) .results .conflict) ⌝ }
     ensures state { λ r. ⌜ FinishedAs r n m (now (equations .entry)) (now (substitution .exit)) (now (marks .exit)) (now (back .exit)) (now (reasons .exit)) ⌝ }
 {
-    tables::copy(rows, equations);
+    copying::copy(rows, equations);
     filling::units(multipliers, m, m);
-    tables::fill_sets(divisors, 1);
+    copying::fill_sets(divisors, 1);
     filling::begin(substitution, marks, back, reasons, n);
     let ran = all_rows::in_order(
         rows,
@@ -49,16 +49,16 @@ fn eliminate_in(
     );
     match ran {
         Ran::Finished(steps) => {
-            tables::fill(conflict, 0);
+            copying::fill(conflict, 0);
             Ran::Finished(steps)
         }
         Ran::Conflict { row, steps } => {
-            filling::clear(substitution, marks, back, reasons);
+            filling::clear_run(substitution, marks, back, reasons);
             Ran::Conflict { row, steps }
         }
         Ran::Grown { row, steps } => {
-            filling::clear(substitution, marks, back, reasons);
-            tables::fill(conflict, 0);
+            filling::clear_run(substitution, marks, back, reasons);
+            copying::fill(conflict, 0);
             Ran::Grown { row, steps }
         }
     }

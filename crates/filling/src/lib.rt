@@ -1,4 +1,4 @@
-// The result tables of the run as it starts with them, and as a conflict or a refusal leaves them.
+// The result tables of the run as it starts with them, and all seven as a conflict or a refusal leaves them.
 ghost use mathlib.Core.Path.{_≡_};
 ghost use mathlib.Core.List.{map};
 ghost use Prim.Native.Nat.{suc, _≤_, _*_};
@@ -13,7 +13,7 @@ pub fn units(table: &mut [i64], count: usize, w: usize)
     requires { ⌜ (length (now table) ≡ count * w) × (count ≤ w) ⌝ }
     ensures { λ _. ⌜ now (table .exit) ≡ flat (map (unitRow w) (counted 0 count)) ⌝ }
 {
-    tables::fill(table, 0);
+    copying::fill(table, 0);
     let mut r = 0;
     while r < count {
         table[r * w + r] = 1;
@@ -37,20 +37,39 @@ pub fn begin(
 {
     let w = n + 1;
     units(substitution, n, w);
-    tables::fill_marks(marks, 1);
+    copying::fill_marks(marks, 1);
     units(back, n, w);
-    tables::fill(reasons, 0);
+    copying::fill(reasons, 0);
 }
 
-// Four result tables full of zeros.
-pub fn clear(substitution: &mut [i64], marks: &mut [u8], back: &mut [i64], reasons: &mut [i64])
+// All seven result tables full of zeros.
+pub fn clear(
+    substitution: &mut [i64],
+    marks: &mut [u8],
+    back: &mut [i64],
+    reasons: &mut [i64],
+    conflict: &mut [i64],
+    tightened: &mut [i64],
+    used: &mut [u64],
+)
+    ensures run { λ _. ⌜ (now (substitution .exit) ≡ replicate (length (now (substitution .entry))) (pos 0)) × (now (marks .exit) ≡ replicate (length (now (marks .entry))) 0) × (now (back .exit) ≡ replicate (length (now (back .entry))) (pos 0)) × (now (reasons .exit) ≡ replicate (length (now (reasons .entry))) (pos 0)) ⌝ }
+    ensures rest { λ _. ⌜ (now (conflict .exit) ≡ replicate (length (now (conflict .entry))) (pos 0)) × (now (tightened .exit) ≡ replicate (length (now (tightened .entry))) (pos 0)) × (now (used .exit) ≡ replicate (length (now (used .entry))) 0) ⌝ }
+{
+    clear_run(substitution, marks, back, reasons);
+    copying::fill(conflict, 0);
+    copying::fill(tightened, 0);
+    copying::fill_sets(used, 0);
+}
+
+// The four result tables of the run full of zeros.
+pub fn clear_run(substitution: &mut [i64], marks: &mut [u8], back: &mut [i64], reasons: &mut [i64])
     ensures substitution { λ _. ⌜ now (substitution .exit) ≡ replicate (length (now (substitution .entry))) (pos 0) ⌝ }
     ensures marks { λ _. ⌜ now (marks .exit) ≡ replicate (length (now (marks .entry))) 0 ⌝ }
     ensures back { λ _. ⌜ now (back .exit) ≡ replicate (length (now (back .entry))) (pos 0) ⌝ }
     ensures reasons { λ _. ⌜ now (reasons .exit) ≡ replicate (length (now (reasons .entry))) (pos 0) ⌝ }
 {
-    tables::fill(substitution, 0);
-    tables::fill_marks(marks, 0);
-    tables::fill(back, 0);
-    tables::fill(reasons, 0);
+    copying::fill(substitution, 0);
+    copying::fill_marks(marks, 0);
+    copying::fill(back, 0);
+    copying::fill(reasons, 0);
 }

@@ -56,7 +56,7 @@ fn are_against(row: &[i64], other: &[i64], n: usize) -> bool
     if c + d <= 0 {
         return false;
     }
-    if !rows::opposites(&row[..n], &other[..n]) {
+    if !coefficients::opposites(&row[..n], &other[..n]) {
         return false;
     }
     rows::gcd_of(&row[..n]) != 0

@@ -15,8 +15,8 @@ use Rattle.rules.specs.Elimination.{State, Carried, reduced, listedA, gcdOfCoef
 use Rattle.rules.proofs.Within.{Within, reduced-within}
 use Rattle.steps.specs.Shown.{tried, carry, keptRow, laterOf, Divisors}
 use Rattle.steps.specs.declared.Kept.the-variants.{Fits}
-use Rattle.one_row.specs.Worked.{inHand, Working3}
-use Rattle.one_row.proofs.Turns.{tried-true, tried-made}
+use Rattle.stepping.specs.Worked.{inHand, Working3}
+use Rattle.stepping.proofs.Turns.{tried-true, tried-made}
 use Rattle.one_row.proofs.Works.{one-reduced, one-listed, work-reduced, work-unmet, work-steps, coefficients-gcd, bound-is}
 
 pub record Starts (n m : ℕ) (rows multipliers : List ℤ) (divisors : List ℕ) (rows′ multipliers′ : List ℤ) (divisors′ : List ℕ) : Type 0 where

@@ -19,7 +19,7 @@ use Rattle.rows.proofs.Bounded.{and-left, and-right, bounded-nil, bounded-cons}
 use Rattle.rules.proofs.RowInHand.{column-below}
 use Rattle.steps.specs.Shown.{carry}
 use Rattle.rules.specs.Elimination.{stepOf, Carried, State, gcdOfCoefficients, lowestTerms, byGcd, reduced, numbersOf, listedA, stepBound, stepping, fromB, work, Worked, passed, unmet, large}
-use Rattle.one_row.proofs.Turns.{choose, chosen-true, chosen-false}
+use Rattle.stepping.proofs.Turns.{choose, chosen-true, chosen-false}
 
 module _ (n : ℕ) (e : Carried) (later : List Carried) (s : State) where
   reducedFrom : Worked

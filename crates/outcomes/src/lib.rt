@@ -1,4 +1,4 @@
-// The outcome after a run that finished: the inequalities worked, then the two looks; zeros in every table where it is a refusal.
+// The outcome after a run that finished: the inequalities worked, then the two looks.
 ghost use mathlib.Core.Path.{_≡_};
 ghost use mathlib.Core.Bool.{true};
 ghost use Prim.Native.Nat.{suc, _≤_, _*_};
@@ -7,7 +7,7 @@ ghost use lib.ListN.{length, replicate};
 ghost use Rattle.rows.specs.Row.{allWithin};
 ghost use Rattle.rows.specs.Table.{rowsOf};
 ghost use Rattle.rules.specs.Outcomes.{lookedAt, withInequalities as withInequalitiesOf};
-ghost use Rattle.one_row.specs.Worked.{stateOf};
+ghost use Rattle.stepping.specs.Worked.{stateOf};
 ghost use Rattle.outcomes.specs.Answered.{answer};
 use rules::Outcome;
 use rules::Refusal;
@@ -30,25 +30,6 @@ fn look(tightened: &[i64], n: usize, k: usize, steps: usize) -> Outcome
         };
     }
     Outcome::Open { steps }
-}
-
-// All seven result tables full of zeros.
-pub fn clear(
-    substitution: &mut [i64],
-    marks: &mut [u8],
-    back: &mut [i64],
-    reasons: &mut [i64],
-    conflict: &mut [i64],
-    tightened: &mut [i64],
-    used: &mut [u64],
-)
-    ensures run { λ _. ⌜ (now (substitution .exit) ≡ replicate (length (now (substitution .entry))) (pos 0)) × (now (marks .exit) ≡ replicate (length (now (marks .entry))) 0) × (now (back .exit) ≡ replicate (length (now (back .entry))) (pos 0)) × (now (reasons .exit) ≡ replicate (length (now (reasons .entry))) (pos 0)) ⌝ }
-    ensures rest { λ _. ⌜ (now (conflict .exit) ≡ replicate (length (now (conflict .entry))) (pos 0)) × (now (tightened .exit) ≡ replicate (length (now (tightened .entry))) (pos 0)) × (now (used .exit) ≡ replicate (length (now (used .entry))) 0) ⌝ }
-{
-    filling::clear(substitution, marks, back, reasons);
-    tables::fill(conflict, 0);
-    tables::fill(tightened, 0);
-    tables::fill_sets(used, 0);
 }
 
 // The inequalities after a run that finished: all rows are worked before a conflict is looked for.
@@ -81,7 +62,7 @@ pub fn with_inequalities(
         m,
     );
     if bad != 0 {
-        clear(
+        filling::clear(
             substitution,
             marks,
             back,

@@ -59,13 +59,13 @@ fn solve_good(
             used,
         ),
         Ran::Conflict { row, steps } => {
-            tables::fill(tightened, 0);
-            tables::fill_sets(used, 0);
+            copying::fill(tightened, 0);
+            copying::fill_sets(used, 0);
             Outcome::EquationConflict { row, steps }
         }
         Ran::Grown { row, steps } => {
-            tables::fill(tightened, 0);
-            tables::fill_sets(used, 0);
+            copying::fill(tightened, 0);
+            copying::fill_sets(used, 0);
             Outcome::Refused(Refusal::TooLarge { row, steps })
         }
     }
@@ -93,7 +93,7 @@ fn solve_long(
     let entries = limits::check_entries(n, equations, inequalities);
     match entries {
         Entries::Bad(refusal) => {
-            outcomes::clear(
+            filling::clear(
                 substitution,
                 marks,
                 back,

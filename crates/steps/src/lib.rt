@@ -61,7 +61,7 @@ pub fn correct(
     }
     let e = whole::gcd(h, d);
     let share = d / e;
-    let f = tables::product(b, whole::signed(h / e));
+    let f = multiples::product(b, whole::signed(h / e));
     let product = h * share;
     if 268435455 < product {
         return Kept::Beyond;
@@ -70,7 +70,7 @@ pub fn correct(
         return Kept::Beyond;
     }
     row[k] = 0;
-    if !tables::blend(multipliers, whole::signed(share), reason, f) {
+    if !multiples::blend(multipliers, whole::signed(share), reason, f) {
         return Kept::Beyond;
     }
     Kept::Fits(lowest_terms(multipliers, product))
@@ -84,7 +84,7 @@ pub fn scale_into(into: &mut [i64], row: &[i64], c: i64)
     let mut i = 0;
     while i < row.len() {
         let z = row[i];
-        into[i] = tables::product(c, z);
+        into[i] = multiples::product(c, z);
         i += 1;
     }
 }
@@ -99,6 +99,6 @@ pub fn note_reason(marks: &mut [u8], reasons: &mut [i64], reason: &[i64], k: usi
     marks[k] = 0;
     let start = k * (m + 1);
     let end = start + m;
-    tables::copy(&mut reasons[start..end], reason);
+    copying::copy(&mut reasons[start..end], reason);
     reasons[end] = whole::signed(d);
 }

@@ -15,7 +15,7 @@ pub fn sums_into(into: &mut [i64], inequality: &[i64], substitution: &[i64], n: 
     requires { ⌜ (allWithin (now inequality) ≡ true) × (allWithin (now substitution) ≡ true) ⌝ }
     ensures { λ _. ⌜ now (into .exit) ≡ sumsOf n (rowsOf (suc n) n (now (substitution .entry))) (now (inequality .entry)) ⌝ }
 {
-    tables::fill(into, 0);
+    copying::fill(into, 0);
     let c = inequality[n];
     into[n] = c;
     tables::gather(into, &inequality[..n], substitution);

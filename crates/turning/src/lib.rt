@@ -25,13 +25,13 @@ fn way_back(table: &mut [i64], n: usize, k: usize, q: &[i64]) -> bool
     let start = k * w;
     let end = start + w;
     let mut row = [0i64; 33];
-    tables::copy(&mut row[..w], &table[start..end]);
+    copying::copy(&mut row[..w], &table[start..end]);
     tables::gather(&mut row[..w], &q[..n], table);
     let c = q[n];
     row[n] = row[n] + c;
     let fits = rows::all_within(&row[..w]);
     if fits {
-        tables::copy(&mut table[start..end], &row[..w]);
+        copying::copy(&mut table[start..end], &row[..w]);
     }
     fits
 }
@@ -50,9 +50,9 @@ pub fn turn(
 {
     let w = n + 1;
     let mut q = [0i64; 33];
-    let k = rows::smallest(&rows[..n]);
+    let k = coefficients::smallest(&rows[..n]);
     let a = rows[k];
-    rows::quotients(&mut q[..w], &rows[..w], a);
+    coefficients::quotients(&mut q[..w], &rows[..w], a);
     q[k] = 0;
     let first = tables::put_in(rows, count, w, k, &q[..w]);
     let second = tables::put_in(substitution, n, w, k, &q[..w]);

@@ -62,14 +62,14 @@ fill-requires c κs = search needs
 enum-known-ran-2 : tie.Need-enum-known-ran-2
 enum-known-ran-2 c = search needs
 
-clear-requires : tie.Need-clear-requires
-clear-requires c κs = search needs
+clear-run-requires : tie.Need-clear-run-requires
+clear-run-requires c κs = search needs
 
 enum-known-ran-3 : tie.Need-enum-known-ran-3
 enum-known-ran-3 c = search needs
 
-clear-requires-2 : tie.Need-clear-requires-2
-clear-requires-2 c κs = search needs
+clear-run-requires-2 : tie.Need-clear-run-requires-2
+clear-run-requires-2 c κs = search needs
 
 fill-requires-2 : tie.Need-fill-requires-2
 fill-requires-2 c κs = search needs
@@ -184,11 +184,11 @@ returns-2 c =
     let row = c .before .before .before .before .before .before .before .before .before .before .before .ran2 .given .0 .0 in
     let steps = c .before .before .before .before .before .before .before .before .before .before .before .ran2 .given .0 .1 .0 in
     let e = c .before .before .before .before .before .before .before .before .before .before .before .ran2 .given .1 in
-    asked-conflict (start i .args .n) (start i .args .m) (start i .args .equations .now) (c .before .before .before .before .before .clear .last .0) (c .before .before .before .before .before .clear .last .1 .0) (c .before .before .before .before .before .clear .last .1 .1 .0) (c .before .before .before .before .before .clear .last .1 .1 .1 .0)
-    (c .before .before .before .before .before .clear .ensures .0 ∙ ap (λ (k : ℕ). replicate k (pos 0)) (substitution-long i ∙ p .0))
-    (c .before .before .before .before .before .clear .ensures .1 .0 ∙ ap (λ (k : ℕ). replicate k 0) (marks-long i ∙ p .1))
-    (c .before .before .before .before .before .clear .ensures .1 .1 .0 ∙ ap (λ (k : ℕ). replicate k (pos 0)) (back-long i ∙ p .2))
-    (c .before .before .before .before .before .clear .ensures .1 .1 .1 ∙ ap (λ (k : ℕ). replicate k (pos 0)) (reasons-long i ∙ p .3))
+    asked-conflict (start i .args .n) (start i .args .m) (start i .args .equations .now) (c .before .before .before .before .before .clear-run .last .0) (c .before .before .before .before .before .clear-run .last .1 .0) (c .before .before .before .before .before .clear-run .last .1 .1 .0) (c .before .before .before .before .before .clear-run .last .1 .1 .1 .0)
+    (c .before .before .before .before .before .clear-run .ensures .0 ∙ ap (λ (k : ℕ). replicate k (pos 0)) (substitution-long i ∙ p .0))
+    (c .before .before .before .before .before .clear-run .ensures .1 .0 ∙ ap (λ (k : ℕ). replicate k 0) (marks-long i ∙ p .1))
+    (c .before .before .before .before .before .clear-run .ensures .1 .1 .0 ∙ ap (λ (k : ℕ). replicate k (pos 0)) (back-long i ∙ p .2))
+    (c .before .before .before .before .before .clear-run .ensures .1 .1 .1 ∙ ap (λ (k : ℕ). replicate k (pos 0)) (reasons-long i ∙ p .3))
     row
     steps
     (i .in-order .last .1 .1 .1 .1 .1 .1 .1 .0)
@@ -206,13 +206,13 @@ same-length-19 : tie.Need-same-length-19
 same-length-19 c = divisors-same (c .before .before .before .before .before .before .before .before .before .before .before .before .before .before .before .before .before .before .before .before .before .before .before .before .before .before)
 
 same-length-20 : tie.Need-same-length-20
-same-length-20 c = c .before .before .before .before .before .before .before .before .clear2 .kept .0 ∙ substitution-long (c .before .before .before .before .before .before .before .before .before .before .before .before .before .before .before .before .before .before .before .before .before .before .before .before .before .before)
+same-length-20 c = c .before .before .before .before .before .before .before .before .clear-run2 .kept .0 ∙ substitution-long (c .before .before .before .before .before .before .before .before .before .before .before .before .before .before .before .before .before .before .before .before .before .before .before .before .before .before)
 
 same-length-21 : tie.Need-same-length-21
-same-length-21 c = c .before .before .before .before .before .before .before .before .clear2 .kept .1 .0 ∙ marks-long (c .before .before .before .before .before .before .before .before .before .before .before .before .before .before .before .before .before .before .before .before .before .before .before .before .before .before)
+same-length-21 c = c .before .before .before .before .before .before .before .before .clear-run2 .kept .1 .0 ∙ marks-long (c .before .before .before .before .before .before .before .before .before .before .before .before .before .before .before .before .before .before .before .before .before .before .before .before .before .before)
 
 same-length-22 : tie.Need-same-length-22
-same-length-22 c = c .before .before .before .before .before .before .before .before .clear2 .kept .1 .1 .0 ∙ back-long (c .before .before .before .before .before .before .before .before .before .before .before .before .before .before .before .before .before .before .before .before .before .before .before .before .before .before)
+same-length-22 c = c .before .before .before .before .before .before .before .before .clear-run2 .kept .1 .1 .0 ∙ back-long (c .before .before .before .before .before .before .before .before .before .before .before .before .before .before .before .before .before .before .before .before .before .before .before .before .before .before)
 
 same-length-23 : tie.Need-same-length-23
 same-length-23 c = search needs
@@ -226,11 +226,11 @@ returns-3 c =
     let p = start i .pre .1 .1 in
     let row = c .before .before .before .before .before .before .before .before .before .before .before .before .before .before .ran3 .given .0 .0 in
     let steps = c .before .before .before .before .before .before .before .before .before .before .before .before .before .before .ran3 .given .0 .1 .0 in
-    asked-grown (start i .args .n) (start i .args .m) (start i .args .equations .now) (c .before .before .before .before .before .before .before .before .clear2 .last .0) (c .before .before .before .before .before .before .before .before .clear2 .last .1 .0) (c .before .before .before .before .before .before .before .before .clear2 .last .1 .1 .0) (c .before .before .before .before .before .before .before .before .clear2 .last .1 .1 .1 .0)
-    (c .before .before .before .before .before .before .before .before .clear2 .ensures .0 ∙ ap (λ (k : ℕ). replicate k (pos 0)) (substitution-long i ∙ p .0))
-    (c .before .before .before .before .before .before .before .before .clear2 .ensures .1 .0 ∙ ap (λ (k : ℕ). replicate k 0) (marks-long i ∙ p .1))
-    (c .before .before .before .before .before .before .before .before .clear2 .ensures .1 .1 .0 ∙ ap (λ (k : ℕ). replicate k (pos 0)) (back-long i ∙ p .2))
-    (c .before .before .before .before .before .before .before .before .clear2 .ensures .1 .1 .1 ∙ ap (λ (k : ℕ). replicate k (pos 0)) (reasons-long i ∙ p .3))
+    asked-grown (start i .args .n) (start i .args .m) (start i .args .equations .now) (c .before .before .before .before .before .before .before .before .clear-run2 .last .0) (c .before .before .before .before .before .before .before .before .clear-run2 .last .1 .0) (c .before .before .before .before .before .before .before .before .clear-run2 .last .1 .1 .0) (c .before .before .before .before .before .before .before .before .clear-run2 .last .1 .1 .1 .0)
+    (c .before .before .before .before .before .before .before .before .clear-run2 .ensures .0 ∙ ap (λ (k : ℕ). replicate k (pos 0)) (substitution-long i ∙ p .0))
+    (c .before .before .before .before .before .before .before .before .clear-run2 .ensures .1 .0 ∙ ap (λ (k : ℕ). replicate k 0) (marks-long i ∙ p .1))
+    (c .before .before .before .before .before .before .before .before .clear-run2 .ensures .1 .1 .0 ∙ ap (λ (k : ℕ). replicate k (pos 0)) (back-long i ∙ p .2))
+    (c .before .before .before .before .before .before .before .before .clear-run2 .ensures .1 .1 .1 ∙ ap (λ (k : ℕ). replicate k (pos 0)) (reasons-long i ∙ p .3))
     row
     steps
     (c .before .fill2 .last .0)
@@ -249,9 +249,9 @@ eliminate-in-spec =
     enum-known-ran
     fill-requires
     enum-known-ran-2
-    clear-requires
+    clear-run-requires
     enum-known-ran-3
-    clear-requires-2
+    clear-run-requires-2
     fill-requires-2
     same-length
     same-length-2

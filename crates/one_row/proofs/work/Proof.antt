@@ -10,7 +10,7 @@ use lib.Seq.{length-take-le}
 use Rattle.whole.specs.Limit.{W}
 use Rattle.rows.specs.Row.{smallest}
 use Rattle.rows.proofs.Bounded.{bounded-at}
-use Rattle.one_row.proofs.Turns.{tried-beyond}
+use Rattle.stepping.proofs.Turns.{tried-beyond}
 use Rattle.one_row.proofs.Works.{work-done, work-large, gcd-within, bound-small}
 use Rattle.one_row.proofs.Starts.{hand-within, goes-unmet, goes-steps}
 use Rattle.one_row.proofs.work.Statement.{statement}

@@ -11,9 +11,9 @@ use Rattle.rows.specs.Row.{at, allWithin}
 use Rattle.rules.specs.Elimination.{work, inOrder, Ended}
 use Rattle.steps.specs.Shown.{carriedOf}
 use Rattle.closing.proofs.ShutTables.{rest-lent, rest-back}
-use Rattle.one_row.specs.Worked.{stateOf, workShown}
-use Rattle.one_row.specs.declared.Working.{Working}
-use Rattle.one_row.proofs.Going.{Long}
+use Rattle.stepping.specs.Worked.{stateOf, workShown}
+use Rattle.stepping.specs.declared.Working.{Working}
+use Rattle.stepping.proofs.Going.{Long}
 use Rattle.all_rows.proofs.Order.{Ahead, row-inside, multipliers-inside, handAt, laterAt}
 use Rattle.all_rows.proofs.OrderNext.{joinedAt, Returned, rows-long, multipliers-long, divisors-long}
 use Rattle.all_rows.proofs.in_order.Tie as tie

@@ -15,7 +15,7 @@ use Rattle.rows.proofs.Bounded.{bounded-take}
 use Rattle.rules.specs.Elimination.{Carried, State, reduced, listedA}
 use Rattle.steps.specs.Shown.{tried, keptRow, laterOf}
 use Rattle.steps.specs.declared.Kept.{Kept}
-use Rattle.one_row.specs.Worked.{stateOf, inHand}
+use Rattle.stepping.specs.Worked.{stateOf, inHand}
 use Rattle.one_row.proofs.Starts.{Starts, starts-same, starts-reduced, rows-enough, multipliers-enough}
 use Rattle.one_row.proofs.work.Tie as tie
 

@@ -11,7 +11,7 @@ use Rattle.rules.specs.declared.Outcome.{Outcome}
 use Rattle.rules.specs.Elimination.{finished, elimination}
 use Rattle.rules.specs.Outcomes.{afterRun}
 use Rattle.all_rows.specs.declared.Ran.{Ran}
-use Rattle.one_row.specs.Worked.{stateOf}
+use Rattle.stepping.specs.Worked.{stateOf}
 use Rattle.elimination.specs.Eliminated.{FinishedAs}
 use Rattle.outcomes.specs.Answered.{answer}
 use Rattle.outcomes.proofs.Tabled.{same-answer}
