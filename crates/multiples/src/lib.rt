@@ -55,8 +55,8 @@ pub fn blend(row: &mut [i64], p: i64, other: &[i64], q: i64) -> bool
         let a = row[i];
         let b = other[i];
         let z = less_product(product(p, a), q, b);
-        let good = whole::within(z);
-        fits = fits & good;
+        let inside = whole::within(z);
+        fits = fits & inside;
         row[i] = z;
         i += 1;
     }
