@@ -19,7 +19,7 @@ units-requires : tie.Need-units-requires
 units-requires c κs = search needs
 
 fill-sets-requires : tie.Need-fill-sets-requires
-fill-sets-requires c κs = search needs
+fill-sets-requires c κs = tt
 
 begin-requires : tie.Need-begin-requires
 begin-requires c κs = search needs
@@ -57,22 +57,22 @@ enum-known-ran : tie.Need-enum-known-ran
 enum-known-ran c = search needs
 
 fill-requires : tie.Need-fill-requires
-fill-requires c κs = search needs
+fill-requires c κs = tt
 
 enum-known-ran-2 : tie.Need-enum-known-ran-2
 enum-known-ran-2 c = search needs
 
 clear-run-requires : tie.Need-clear-run-requires
-clear-run-requires c κs = search needs
+clear-run-requires c κs = tt
 
 enum-known-ran-3 : tie.Need-enum-known-ran-3
 enum-known-ran-3 c = search needs
 
 clear-run-requires-2 : tie.Need-clear-run-requires-2
-clear-run-requires-2 c κs = search needs
+clear-run-requires-2 c κs = tt
 
 fill-requires-2 : tie.Need-fill-requires-2
-fill-requires-2 c κs = search needs
+fill-requires-2 c κs = tt
 
 -- what the answer and the tables then show is how the definitions end
 module _ (i : tie.After-in-order) where
@@ -127,19 +127,19 @@ same-length-3 : tie.Need-same-length-3
 same-length-3 c = divisors-same (c .before .before .before .before .before .before .before .before .before .before .before .before .before .before .before .before)
 
 same-length-4 : tie.Need-same-length-4
-same-length-4 c = search needs
+same-length-4 c = substitution-long (c .before .before .before .before .before .before .before .before .before .before .before .before .before .before .before .before)
 
 same-length-5 : tie.Need-same-length-5
-same-length-5 c = search needs
+same-length-5 c = marks-long (c .before .before .before .before .before .before .before .before .before .before .before .before .before .before .before .before)
 
 same-length-6 : tie.Need-same-length-6
-same-length-6 c = search needs
+same-length-6 c = back-long (c .before .before .before .before .before .before .before .before .before .before .before .before .before .before .before .before)
 
 same-length-7 : tie.Need-same-length-7
-same-length-7 c = search needs
+same-length-7 c = reasons-long (c .before .before .before .before .before .before .before .before .before .before .before .before .before .before .before .before)
 
 same-length-8 : tie.Need-same-length-8
-same-length-8 c = search needs
+same-length-8 c = c .before .fill .kept .0 ∙ conflict-long (c .before .before .before .before .before .before .before .before .before .before .before .before .before .before .before .before)
 
 returns : tie.Need-returns
 returns c =
@@ -163,19 +163,19 @@ same-length-11 : tie.Need-same-length-11
 same-length-11 c = divisors-same (c .before .before .before .before .before .before .before .before .before .before .before .before .before .before .before .before .before .before .before .before .before .before .before)
 
 same-length-12 : tie.Need-same-length-12
-same-length-12 c = search needs
+same-length-12 c = c .before .before .before .before .before .clear-run .kept .0 ∙ substitution-long (c .before .before .before .before .before .before .before .before .before .before .before .before .before .before .before .before .before .before .before .before .before .before .before)
 
 same-length-13 : tie.Need-same-length-13
-same-length-13 c = search needs
+same-length-13 c = c .before .before .before .before .before .clear-run .kept .1 .0 ∙ marks-long (c .before .before .before .before .before .before .before .before .before .before .before .before .before .before .before .before .before .before .before .before .before .before .before)
 
 same-length-14 : tie.Need-same-length-14
-same-length-14 c = search needs
+same-length-14 c = c .before .before .before .before .before .clear-run .kept .1 .1 .0 ∙ back-long (c .before .before .before .before .before .before .before .before .before .before .before .before .before .before .before .before .before .before .before .before .before .before .before)
 
 same-length-15 : tie.Need-same-length-15
-same-length-15 c = search needs
+same-length-15 c = c .before .before .before .before .before .clear-run .kept .1 .1 .1 .0 ∙ reasons-long (c .before .before .before .before .before .before .before .before .before .before .before .before .before .before .before .before .before .before .before .before .before .before .before)
 
 same-length-16 : tie.Need-same-length-16
-same-length-16 c = search needs
+same-length-16 c = conflict-long (c .before .before .before .before .before .before .before .before .before .before .before .before .before .before .before .before .before .before .before .before .before .before .before)
 
 returns-2 : tie.Need-returns-2
 returns-2 c =
@@ -215,10 +215,10 @@ same-length-22 : tie.Need-same-length-22
 same-length-22 c = c .before .before .before .before .before .before .before .before .clear-run2 .kept .1 .1 .0 ∙ back-long (c .before .before .before .before .before .before .before .before .before .before .before .before .before .before .before .before .before .before .before .before .before .before .before .before .before .before)
 
 same-length-23 : tie.Need-same-length-23
-same-length-23 c = search needs
+same-length-23 c = c .before .before .before .before .before .before .before .before .clear-run2 .kept .1 .1 .1 .0 ∙ reasons-long (c .before .before .before .before .before .before .before .before .before .before .before .before .before .before .before .before .before .before .before .before .before .before .before .before .before .before)
 
 same-length-24 : tie.Need-same-length-24
-same-length-24 c = search needs
+same-length-24 c = c .before .fill2 .kept .0 ∙ conflict-long (c .before .before .before .before .before .before .before .before .before .before .before .before .before .before .before .before .before .before .before .before .before .before .before .before .before .before)
 
 returns-3 : tie.Need-returns-3
 returns-3 c =

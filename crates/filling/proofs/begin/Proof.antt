@@ -17,25 +17,25 @@ units-requires : tie.Need-units-requires
 units-requires c κs = search needs
 
 fill-marks-requires : tie.Need-fill-marks-requires
-fill-marks-requires c κs = search needs
+fill-marks-requires c κs = tt
 
 units-requires-2 : tie.Need-units-requires-2
 units-requires-2 c κs = search needs
 
 fill-requires : tie.Need-fill-requires
-fill-requires c κs = search needs
+fill-requires c κs = tt
 
 same-length : tie.Need-same-length
-same-length c = search needs
+same-length c = c .before .before .before .before .before .before .before .before .before .before .before .units .kept .0
 
 same-length-2 : tie.Need-same-length-2
-same-length-2 c = search needs
+same-length-2 c = c .before .before .before .before .before .before .before .before .fill-marks .kept .0
 
 same-length-3 : tie.Need-same-length-3
-same-length-3 c = search needs
+same-length-3 c = c .before .before .before .before .units2 .kept .0
 
 same-length-4 : tie.Need-same-length-4
-same-length-4 c = search needs
+same-length-4 c = c .before .fill .kept .0
 
 returns : tie.Need-returns
 unfolding identity

@@ -190,13 +190,13 @@ way-back-requires c κs =
     (s .pre .0 .3, s .pre .0 .4, inside (chosen z), part-length z ∙ add-one (s .args .n), s .pre .1 .2, part-within z)
 
 same-length : tie.Need-same-length
-same-length c = search needs
+same-length c = c .before .before .before .before .before .before .before .before .before .before .put-in .kept .0
 
 same-length-2 : tie.Need-same-length-2
-same-length-2 c = search needs
+same-length-2 c = c .before .before .before .before .before .before .put-in2 .kept .0
 
 same-length-3 : tie.Need-same-length-3
-same-length-3 c = search needs
+same-length-3 c = c .before .before .way-back .kept .0
 
 returns : tie.Need-returns
 returns c =
@@ -217,13 +217,13 @@ returns c =
     (one .result) (two .result) (three .result) (first .1) (second .1) third (s .pre .0 .0) (s .pre .0 .2) (first .0) (second .0) (c .if1 .taken))
 
 same-length-4 : tie.Need-same-length-4
-same-length-4 c = search needs
+same-length-4 c = c .before .before .before .before .before .before .before .before .before .before .put-in .kept .0
 
 same-length-5 : tie.Need-same-length-5
-same-length-5 c = search needs
+same-length-5 c = c .before .before .before .before .before .before .put-in2 .kept .0
 
 same-length-6 : tie.Need-same-length-6
-same-length-6 c = search needs
+same-length-6 c = c .before .before .way-back .kept .0
 
 returns-2 : tie.Need-returns-2
 returns-2 c =
