@@ -73,7 +73,7 @@ pub fn close(
     let w = n + 1;
     let d = divisors[0];
     let mut reason = [0i64; 32];
-    steps::scale_into(&mut reason[..m], &multipliers[..m], a);
+    reasons::scale_into(&mut reason[..m], &multipliers[..m], a);
     if !correct_later(
         &mut rows[w..],
         &mut multipliers[m..],
@@ -85,6 +85,6 @@ pub fn close(
     ) {
         return false;
     }
-    steps::note_reason(marks, reasons, &reason[..m], k, d);
+    reasons::note_reason(marks, reasons, &reason[..m], k, d);
     true
 }

@@ -6,7 +6,7 @@ ghost use lib.ListN.{length};
 ghost use Rattle.rows.specs.Row.{allWithin};
 ghost use Rattle.rows.specs.Table.{rowsOf};
 ghost use Rattle.inequalities.specs.Worked.{rowShown, rowWorked, rowsShown, rowsWorked};
-ghost use Rattle.tightening.specs.Shown.{shownState};
+ghost use Rattle.used.specs.Shown.{shownState};
 
 // The set that an inequality used, or that one of its sums is beyond the limit.
 pub enum Sums {
@@ -32,7 +32,7 @@ fn work_row(
     if !rows::all_within(row) {
         return Sums::TooFar;
     }
-    let set = tightening::used_by(marks, reasons, row, n, m);
+    let set = used::used_by(marks, reasons, row, n, m);
     tightening::only_open(row, marks);
     tightening::tighten(row, n);
     Sums::Used(set)

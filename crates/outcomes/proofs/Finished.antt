@@ -17,7 +17,7 @@ use Rattle.rules.specs.Inequalities.{usedBy, tightenedRow}
 use Rattle.rules.specs.Outcomes.{blank, allFilled, lookedAt, withInequalities, afterRun}
 use Rattle.rules.proofs.RunWithin.{run-within}
 use Rattle.stepping.specs.Worked.{stateOf}
-use Rattle.tightening.specs.Shown.{shownState}
+use Rattle.used.specs.Shown.{shownState}
 use Rattle.inequalities.specs.Worked.{rowsShown, rowsWorked}
 use Rattle.outcomes.specs.Answered.{answer}
 use Rattle.outcomes.proofs.Looked.{looked-same}

@@ -1,5 +1,3 @@
 -- Laws of the steps on one row.
 pub mod Attempts
 pub mod CorrectedRow
-pub mod ShutRows
-pub mod ShutReasons

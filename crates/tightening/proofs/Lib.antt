@@ -1,4 +1,3 @@
 -- Laws of the parts of the work on one inequality.
-pub mod Reasons
 pub mod OpenColumns
 pub mod TightRow

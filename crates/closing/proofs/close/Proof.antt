@@ -20,7 +20,7 @@ use Rattle.rules.specs.Elimination.{Carried, corrected}
 use Rattle.steps.specs.Shown.{tried, carriedOf, laterOf}
 use Rattle.closing.specs.Shut.{listedShut}
 use Rattle.steps.proofs.Attempts.{lent-length}
-use Rattle.steps.proofs.ShutRows.{length-scaled, bounded-scaled}
+use Rattle.reasons.proofs.ShutRows.{length-scaled, bounded-scaled}
 use Rattle.closing.proofs.ShutTables.{rest-lent, rest-back, rows-behind, first-inside, divisors-first, divisors-behind, shut-none, shut-made}
 use Rattle.closing.proofs.close.Statement.{statement}
 use Rattle.closing.proofs.close.Tie as tie

@@ -10,7 +10,7 @@ use Rattle.whole.specs.Limit.{W}
 use Rattle.rows.specs.Row.{allWithin}
 use Rattle.rules.specs.Elimination.{State}
 use Rattle.rules.specs.Inequalities.{sums, usedBy, onlyOpen, tighten, tightenedRow}
-use Rattle.tightening.specs.Shown.{shownState}
+use Rattle.used.specs.Shown.{shownState}
 use Rattle.tightening.proofs.OpenColumns.{length-onlyOpen, bounded-onlyOpen}
 use Rattle.inequalities.proofs.WorkedRows.{length-sums, row-worked, row-large}
 use Rattle.inequalities.proofs.work_row.Statement.{statement}

@@ -10,7 +10,7 @@ use Rattle.rows.specs.Table.{rowAt}
 use Rattle.rows.proofs.TableLaws.{length-rowAt, length-setRow}
 use Rattle.tables.proofs.Multiples.{within-row}
 use Rattle.rules.specs.Elimination.{State}
-use Rattle.tightening.specs.Shown.{shownState}
+use Rattle.used.specs.Shown.{shownState}
 use Rattle.inequalities.specs.Worked.{rowShown, rowWorked}
 use Rattle.looks.proofs.FirstRows.{row-fits, row-lent}
 use Rattle.inequalities.proofs.WorkedRows.{Done, done-start, done-step, done-large, done-end}

@@ -5,7 +5,7 @@ use Prim.Native.Nat.{ℕ, suc, _*_}
 use lib.ListN.{length}
 use Rattle.rows.specs.Row.{allWithin}
 use Rattle.rows.specs.Table.{rowsOf}
-use Rattle.tightening.specs.Shown.{shownState}
+use Rattle.used.specs.Shown.{shownState}
 use Rattle.inequalities.specs.Worked.{rowsShown, rowsWorked}
 use Rattle.outcomes.proofs.Finished.{tightened-within}
 use Rattle.outcomes.proofs.with_inequalities.Tie as tie

@@ -1,4 +1,4 @@
--- `tightening::rests_on` meets its contract: as long as no column decides, the columns ahead do.
+-- `used::rests_on` meets its contract: as long as no column decides, the columns ahead do.
 use mathlib.Core.Path.{_≡_, sym, _∙_}
 use mathlib.Core.Logic.{_⊎_, inl, inr, ⊎-elim}
 use Prim.Native.Nat.{suc, _+_, _*_, _-_, _≤_}
@@ -10,9 +10,9 @@ use lib.IntN.{pos}
 use Rattle.rows.specs.Row.{at}
 use Rattle.rows.proofs.Lists.{row-end}
 use Rattle.looks.proofs.Zeros.{zero-read, nonzero-read}
-use Rattle.tightening.proofs.Reasons.{restsFrom, rests-start, rests-none, rests-here, rests-later}
-use Rattle.tightening.proofs.rests_on.Statement.{statement}
-use Rattle.tightening.proofs.rests_on.Tie as tie
+use Rattle.used.proofs.Reasons.{restsFrom, rests-start, rests-none, rests-here, rests-later}
+use Rattle.used.proofs.rests_on.Statement.{statement}
+use Rattle.used.proofs.rests_on.Tie as tie
 
 abbrev Inv-loop : tie.InvT-loop
 Inv-loop marks reasons sums m j w p₀ p =

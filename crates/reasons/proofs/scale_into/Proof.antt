@@ -1,4 +1,4 @@
--- `steps::scale_into` meets its contract: a sweep that writes c times each number of one row into another.
+-- `reasons::scale_into` meets its contract: a sweep that writes c times each number of one row into another.
 use mathlib.Core.Path.{_≡_, ap, _∙_}
 use Prim.Native.Nat.{_+_, _-_, _≤_}
 use native.Mathlib.Omega.{arith}
@@ -13,9 +13,9 @@ use Rattle.whole.proofs.Taken.{back}
 use Rattle.rows.specs.Row.{at, scaled}
 use Rattle.rows.proofs.Sweep.{Swept, swept-start, swept-step, swept-end}
 use Rattle.rows.proofs.Bounded.{bounded-at}
-use Rattle.steps.proofs.ShutRows.{scaled-none, scaled-more}
-use Rattle.steps.proofs.scale_into.Statement.{statement}
-use Rattle.steps.proofs.scale_into.Tie as tie
+use Rattle.reasons.proofs.ShutRows.{scaled-none, scaled-more}
+use Rattle.reasons.proofs.scale_into.Statement.{statement}
+use Rattle.reasons.proofs.scale_into.Tie as tie
 
 abbrev Inv-loop : tie.InvT-loop
 Inv-loop into₀ row c i₀ into i = let z = toZ w64 c in (i ≤ length row) × Swept into₀ into (scaled z row) i (scaled z (drop i row))

@@ -1,4 +1,4 @@
--- `steps::note_reason` meets its contract: the multipliers and then the divisor, written one behind the other, are row k of the reasons.
+-- `reasons::note_reason` meets its contract: the multipliers and then the divisor, written one behind the other, are row k of the reasons.
 use mathlib.Core.Path.{_≡_, refl, ap, _∙_}
 use mathlib.Core.List.{[], _∷_, _++_}
 use Prim.Native.Nat.{suc, _+_, _*_, _≤_}
@@ -14,9 +14,9 @@ use Rattle.whole.proofs.Taken.{back}
 use Rattle.rows.specs.Table.{rowsOf}
 use Rattle.rows.proofs.Lists.{row-end}
 use Rattle.rows.proofs.TableLaws.{rowsOf-setRow}
-use Rattle.steps.proofs.ShutReasons.{row-part-inside, set-row-parts}
-use Rattle.steps.proofs.note_reason.Statement.{statement}
-use Rattle.steps.proofs.note_reason.Tie as tie
+use Rattle.reasons.proofs.ShutReasons.{row-part-inside, set-row-parts}
+use Rattle.reasons.proofs.note_reason.Statement.{statement}
+use Rattle.reasons.proofs.note_reason.Tie as tie
 
 -- row k lies within the table
 within-table : (c : tie.Start) → let a = c .args in let w = suc (length (a .reason .now)) in a .k * w + w ≤ length (a .reasons .now)

@@ -1,4 +1,4 @@
--- `tightening::used_by` meets its contract: the equations from j on are a set of m - j bits, so that one bit more always fits.
+-- `used::used_by` meets its contract: the equations from j on are a set of m - j bits, so that one bit more always fits.
 use mathlib.Core.Path.{_≡_, sym, ap, _∙_}
 use mathlib.Core.Bool.{Bool, true, false}
 use mathlib.Core.List.{List}
@@ -9,9 +9,9 @@ use borrow.Author.Needs.{needs}
 use lib.IntN.{ℤ}
 use Rattle.rows.specs.Table.{rowsOf}
 use Rattle.rules.specs.Inequalities.{restsOn, usedBy}
-use Rattle.tightening.proofs.Reasons.{setFrom, set-none, set-next, set-fits}
-use Rattle.tightening.proofs.used_by.Statement.{statement}
-use Rattle.tightening.proofs.used_by.Tie as tie
+use Rattle.used.proofs.Reasons.{setFrom, set-none, set-next, set-fits}
+use Rattle.used.proofs.used_by.Statement.{statement}
+use Rattle.used.proofs.used_by.Tie as tie
 
 -- whether the row rests on an equation
 abbrev answer : ℕ → ℕ → List ℕ → List ℤ → List ℤ → ℕ → Bool
