@@ -6,7 +6,7 @@ use native.Mathlib.Nat.{add-sub-cancel-left}
 use native.Mathlib.Numerals.{add-one}
 use native.Mathlib.Omega.{arith}
 use borrow.Author.Needs.{needs}
-use lib.ListN.{take, length-append, length-drop}
+use lib.ListN.{length, take, length-append, length-drop}
 use lib.Seq.{length-take-le}
 use lib.IntN.{pos}
 use mir.Syntax.{w64}
@@ -19,9 +19,11 @@ use Rattle.all_rows.proofs.OrderNext.{multipliers-long, ahead-next, con
 use Rattle.all_rows.proofs.in_order.Statement.{statement}
 use Rattle.all_rows.proofs.in_order.Tie as tie
 use Rattle.all_rows.proofs.in_order.Proof.Places.{Inv-loop, μ-loop, goal, ends, turn, head, entry, told, returned, multipliers-there, came-back, copied, copied-long, passing, unmet-at, conflicted, refused}
+use Rattle.all_rows.proofs.in_order.Proof.Sizes.{start-inside, start-fits, bytes-fit, end-fits, row-inside-of, fewer-left, row-bytes-fit, next-fits, column-bytes-fit, one-less-inside}
 use Rattle.all_rows.proofs.in_order.Proof.Lengths.{same-length, same-length-2, same-length-3, same-length-4, same-length-5, same-length-6, same-length-7, same-length-8, same-length-9, same-length-10, same-length-11, same-length-12, same-length-13, same-length-14, same-length-15, same-length-16, same-length-17, same-length-18, same-length-19, same-length-20, same-length-21, same-length-22, same-length-23, same-length-24}
 mod Places
 mod Lengths
+mod Sizes
 
 add-w : tie.Need-add-w Inv-loop μ-loop
 add-w c = search needs
@@ -33,43 +35,65 @@ loop-holds c =
     (s .pre .1 .1, ahead-start (a .n) (a .m) (a .rows .now) (a .multipliers .now) (a .divisors .now) (a .substitution .now) (a .marks .now) (a .back .now) (a .reasons .now) (s .pre .0 .0) (s .pre .0 .1) (s .pre .1 .0))
 
 mul-a : tie.Need-mul-a Inv-loop μ-loop
-mul-a c = let h = ends c in rw (add-one (c .before .before .before .before .args .n)) (omega arith)
+mul-a c =
+    let h = ends c in let a = c .before .before .before .before .args in let l = c .before .loop in
+    rw (add-one (a .n)) (start-fits (l .j * suc (a .n)) (suc (a .n)) (length (l .rows)) (h .0) (h .1))
 
 mul-b : tie.Need-mul-b Inv-loop μ-loop
-mul-b c = let h = ends c in omega arith
+mul-b c =
+    let h = ends c in let a = c .before .before .before .before .args in let l = c .before .loop in
+    start-fits (l .j * a .m) (a .m) (length (l .multipliers)) (h .2) (h .3)
 
 mul-work : tie.Need-mul-work Inv-loop μ-loop
-mul-work c = let h = ends c in rw (add-one (c .before .before .before .before .args .n)) (omega arith)
+mul-work c =
+    let h = ends c in let a = c .before .before .before .before .args in let l = c .before .loop in
+    rw (add-one (a .n)) (bytes-fit (l .j * suc (a .n)) (suc (a .n)) (length (l .rows)) (h .0) (h .1))
 
 sub-work : tie.Need-sub-work Inv-loop μ-loop
-sub-work c = let h = ends c in rw (add-one (c .before .before .before .before .args .n)) (omega arith)
+sub-work c =
+    let h = ends c in let a = c .before .before .before .before .args in let l = c .before .loop in
+    rw (add-one (a .n)) (start-inside (l .j * suc (a .n)) (suc (a .n)) (length (l .rows)) (h .0))
 
 part-work-start : tie.Need-part-work-start Inv-loop μ-loop
-part-work-start c = let h = ends c in rw (add-one (c .before .before .before .before .args .n)) (omega arith)
+part-work-start c =
+    let h = ends c in let a = c .before .before .before .before .args in let l = c .before .loop in
+    rw (add-one (a .n)) (start-inside (l .j * suc (a .n)) (suc (a .n)) (length (l .rows)) (h .0))
 
 part-work-end : tie.Need-part-work-end Inv-loop μ-loop
 part-work-end c = search needs
 
 mul-work-2 : tie.Need-mul-work-2 Inv-loop μ-loop
-mul-work-2 c = let h = ends (c .before) in omega arith
+mul-work-2 c =
+    let h = ends (c .before) in let a = c .before .before .before .before .before .args in let l = c .before .before .loop in
+    bytes-fit (l .j * a .m) (a .m) (length (l .multipliers)) (h .2) (h .3)
 
 sub-work-2 : tie.Need-sub-work-2 Inv-loop μ-loop
-sub-work-2 c = let h = ends (c .before) in omega arith
+sub-work-2 c =
+    let h = ends (c .before) in let a = c .before .before .before .before .before .args in let l = c .before .before .loop in
+    start-inside (l .j * a .m) (a .m) (length (l .multipliers)) (h .2)
 
 part-work-start-2 : tie.Need-part-work-start-2 Inv-loop μ-loop
-part-work-start-2 c = let h = ends (c .before) in omega arith
+part-work-start-2 c =
+    let h = ends (c .before) in let a = c .before .before .before .before .before .args in let l = c .before .before .loop in
+    start-inside (l .j * a .m) (a .m) (length (l .multipliers)) (h .2)
 
 part-work-end-2 : tie.Need-part-work-end-2 Inv-loop μ-loop
 part-work-end-2 c = search needs
 
 mul-work-3 : tie.Need-mul-work-3 Inv-loop μ-loop
-mul-work-3 c = let h = ends (c .before .before) in omega (arith, c .before .before .loop-test .taken)
+mul-work-3 c =
+    let t = c .before .before in let l = t .before .loop in let m = t .before .before .before .before .args .m in
+    row-bytes-fit (l .j) m (t .loop-test .taken) (l .inv .1 .results .small .2)
 
 sub-work-3 : tie.Need-sub-work-3 Inv-loop μ-loop
-sub-work-3 c = omega (arith, c .before .before .loop-test .taken, c .before .before .before .loop .inv .1 .many)
+sub-work-3 c =
+    let t = c .before .before in let l = t .before .loop in let m = t .before .before .before .before .args .m in
+    row-inside-of (l .j) m (t .loop-test .taken) (length (l .divisors)) (l .inv .1 .many)
 
 part-work-start-3 : tie.Need-part-work-start-3 Inv-loop μ-loop
-part-work-start-3 c = omega (arith, c .before .before .loop-test .taken, c .before .before .before .loop .inv .1 .many)
+part-work-start-3 c =
+    let t = c .before .before in let l = t .before .loop in let m = t .before .before .before .before .args .m in
+    row-inside-of (l .j) m (t .loop-test .taken) (length (l .divisors)) (l .inv .1 .many)
 
 part-work-end-3 : tie.Need-part-work-end-3 Inv-loop μ-loop
 part-work-end-3 c = search needs
@@ -92,16 +116,26 @@ enum-known-found-2 : tie.Need-enum-known-found-2 Inv-loop μ-loop
 enum-known-found-2 c = search needs
 
 slice-relend-prefix-copy : tie.Need-slice-relend-prefix-copy Inv-loop μ-loop
-slice-relend-prefix-copy c = omega (arith, head (unmet-at c) .loop .inv .0)
+slice-relend-prefix-copy c = let l = head (unmet-at c) .loop in one-less-inside (entry (unmet-at c) .args .m) (length (l .conflict)) (l .inv .0)
 
 slice-aggregate-copy : tie.Need-slice-aggregate-copy Inv-loop μ-loop
 slice-aggregate-copy c = let t = unmet-at (c .before) in sym (length-take-le (entry t .args .m) (head t .loop .conflict) (omega (arith, head t .loop .inv .0)))
 
 add-copy : tie.Need-add-copy Inv-loop μ-loop
-add-copy c = let h = ends (turn (unmet-at (c .before))) in omega arith
+add-copy c =
+    let t = unmet-at (c .before) in
+    let h = ends (turn t) in
+    let l = head t .loop in
+    let m = entry t .args .m in
+    end-fits (l .j * m) m (length (l .multipliers)) (h .2) (h .3)
 
 mul-copy : tie.Need-mul-copy Inv-loop μ-loop
-mul-copy c = let h = ends (turn (unmet-at (c .before))) in omega arith
+mul-copy c =
+    let t = unmet-at (c .before) in
+    let h = ends (turn t) in
+    let l = head t .loop in
+    let m = entry t .args .m in
+    bytes-fit (l .j * m) m (length (l .multipliers)) (h .2) (h .3)
 
 sub-copy : tie.Need-sub-copy Inv-loop μ-loop
 sub-copy c = omega arith
@@ -129,13 +163,13 @@ signed-requires c κs =
     omega (arith, conflict-small {goal = goal (entry t)} (head t .loop .inv .1) (turn t .loop-test .taken) _ (f .found2 .given .0 .0) (f .found2 .given .0 .1 .0) (told t _ (f .found2 .given .1)))
 
 mul-t48 : tie.Need-mul-t48 Inv-loop μ-loop
-mul-t48 c = let h = ends (turn (conflicted c)) in omega arith
+mul-t48 c = column-bytes-fit (entry (conflicted c) .args .m) (ends (turn (conflicted c)) .4)
 
 slice-set-from-conflict : tie.Need-slice-set-from-conflict Inv-loop μ-loop
 slice-set-from-conflict c = simp (length-append, length-drop) (omega (arith, copied-long (c .before .before), head (conflicted c) .loop .inv .0))
 
 add-t51 : tie.Need-add-t51 Inv-loop μ-loop
-add-t51 c = let h = ends (turn (conflicted c)) in omega (arith, turn (conflicted c) .loop-test .taken)
+add-t51 c = let t = conflicted c in next-fits (head t .loop .j) (entry t .args .m) (turn t .loop-test .taken) (ends (turn t) .4)
 
 returns : tie.Need-returns Inv-loop μ-loop
 returns c =
@@ -155,7 +189,7 @@ enum-known-found-3 : tie.Need-enum-known-found-3 Inv-loop μ-loop
 enum-known-found-3 c = search needs
 
 add-t56 : tie.Need-add-t56 Inv-loop μ-loop
-add-t56 c = let h = ends (turn (refused c)) in omega (arith, turn (refused c) .loop-test .taken)
+add-t56 c = let t = refused c in next-fits (head t .loop .j) (entry t .args .m) (turn t .loop-test .taken) (ends (turn t) .4)
 
 returns-2 : tie.Need-returns-2 Inv-loop μ-loop
 returns-2 c =
@@ -164,10 +198,10 @@ returns-2 c =
     rw (add-one (head t .loop .j)) (answered {goal = goal (entry t)} (head t .loop .inv .1) (turn t .loop-test .taken) (large (f .found3 .given .0 .0)) (told t _ (f .found3 .given .1)), tt)
 
 add-j : tie.Need-add-j Inv-loop μ-loop
-add-j c = let h = ends (turn (passing c)) in omega (arith, turn (passing c) .loop-test .taken)
+add-j c = let t = passing c in next-fits (head t .loop .j) (entry t .args .m) (turn t .loop-test .taken) (ends (turn t) .4)
 
 loop-less : tie.Need-loop-less Inv-loop μ-loop
-loop-less c = let h = turn (passing c) .loop-test .taken in omega arith
+loop-less c = let t = passing c in fewer-left (head t .loop .j) (entry t .args .m) (turn t .loop-test .taken)
 
 loop-again : tie.Need-loop-again Inv-loop μ-loop
 loop-again c =

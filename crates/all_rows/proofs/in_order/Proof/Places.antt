@@ -34,7 +34,7 @@ goal s =
 
 -- ---- a turn: row j lies within the tables, which are small
 pub ends : (c : tie.In-loop Inv-loop μ-loop) → let a = c .before .before .before .before .args in let l = c .before .loop in
-    (l .j * suc (a .n) + suc (a .n) ≤ length (l .rows)) × (length (l .rows) ≤ 1056) × (l .j * a .m + a .m ≤ length (l .multipliers)) × (length (l .multipliers) ≤ 1024) × (a .m ≤ 32)
+    (l .j * suc (a .n) + suc (a .n) ≤ length (l .rows)) × (length (l .rows) ≤ 1056) × (l .j * a .m + a .m ≤ length (l .multipliers)) × (length (l .multipliers) ≤ 1056) × (a .m ≤ 32)
 ends c =
     let l = c .before .loop in
     let g = l .inv .1 in
