@@ -16,7 +16,7 @@ pub fn product(p: i64, a: i64) -> i64
 }
 
 // a - q * b.
-pub fn less_product(a: i64, q: i64, b: i64) -> i64
+fn less_product(a: i64, q: i64, b: i64) -> i64
     requires { ⌜ (natAbs a ≤ 2 ^ 62) × (natAbs q ≤ W) × (natAbs b ≤ W) ⌝ }
     ensures { λ r. ⌜ r ≡ a -ℤ q *ℤ b ⌝ }
 {

@@ -1,6 +1,6 @@
 -- `multiples::blend` meets its contract: a sweep that puts p times each number less q times the other row's number in its place. The answer
 -- so far and the one for the columns ahead make the answer for the row.
-use mathlib.Core.Path.{_≡_, ap, _∙_}
+use mathlib.Core.Path.{_≡_, refl, ap, _∙_}
 use mathlib.Core.Bool.{_&&_, and-assoc}
 use Prim.Native.Nat.{_+_, _-_, _*_, _≤_}
 use native.Mathlib.Nat.{mul-le-mul}
@@ -15,7 +15,7 @@ use Rattle.whole.specs.Limit.{W, within}
 use Rattle.whole.proofs.Integers.{natAbs-*}
 use Rattle.whole.proofs.Taken.{back}
 use Rattle.rows.specs.Row.{at, less, scaled, allWithin}
-use Rattle.rows.proofs.Sweep.{Swept, swept-read, swept-step, swept-end}
+use Rattle.rows.proofs.Sweep.{Swept, swept-start, swept-read, swept-step, swept-end}
 use Rattle.rows.proofs.Bounded.{bounded-at, bounded-cons}
 use Rattle.multiples.proofs.Blended.{blend-none, blend-more, within-end}
 use Rattle.multiples.proofs.blend.Statement.{statement}
@@ -31,7 +31,7 @@ abbrev μ-loop : tie.MeasureT-loop
 μ-loop row₀ p other q fits₀ i₀ row fits i = length row₀ - i
 
 loop-holds : tie.Need-loop-holds Inv-loop μ-loop
-loop-holds c = search needs
+loop-holds c = (search needs, swept-start _ _, refl)
 
 mul-a : tie.Need-mul-a Inv-loop μ-loop
 mul-a c = search needs
