@@ -14,7 +14,7 @@ use Rattle.rows.proofs.TableLaws.{rowsOf-flat, length-flat}
 use Rattle.rules.specs.Elimination.{Carried, counted, identity, start, carried, inOrder, run, elimination}
 use Rattle.rules.proofs.RunWithin.{units-within}
 use Rattle.steps.specs.Shown.{carriedOf, Divisors}
-use Rattle.elimination.specs.Ran.{stateOf, Working3, Results4}
+use Rattle.stepping.specs.Worked.{stateOf, Working3, Results4}
 
 length-unit : (w i : ℕ) → length (unitRow w i) ≡ w
 unfolding unitRow zeros

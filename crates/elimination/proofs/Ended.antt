@@ -14,9 +14,10 @@ use Rattle.rules.specs.declared.Refusal.the-variants.{TooLarge}
 use Rattle.rules.specs.Elimination.{State, Ended, finished, conflicting, tooLarge, elimination}
 use Rattle.rules.specs.Inequalities.{firstRow, firstPair}
 use Rattle.rules.specs.Outcomes.{Answer, afterRun, withInequalities, lookedAt, allFilled, conflictFilled, blank}
-use Rattle.elimination.specs.declared.Ran.{Ran}
-use Rattle.elimination.specs.declared.Ran.the-variants.{Finished, Conflict, Grown}
-use Rattle.elimination.specs.Ran.{stateOf, outcomeOf, eliminated, FinishedAs}
+use Rattle.all_rows.specs.declared.Ran.{Ran}
+use Rattle.all_rows.specs.declared.Ran.the-variants.{Finished, Conflict, Grown}
+use Rattle.stepping.specs.Worked.{stateOf}
+use Rattle.elimination.specs.Eliminated.{outcomeOf, eliminated, FinishedAs}
 
 module _ (n m : ℕ) (equations : List ℤ) where
   abbrev pub ended : Ended

@@ -1,2 +1,2 @@
 -- What the contracts of the run cite, beside document 01's definitions.
-pub mod Ran
+pub mod Eliminated

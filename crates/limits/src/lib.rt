@@ -1,8 +1,8 @@
-// The checks of the input: refusals 1 and 3.
+// The checks of the input: refusals 1 to 3.
 ghost use mathlib.Core.Path.{_≡_};
 ghost use Prim.Native.Nat.{_≤_};
 ghost use Rattle.rules.specs.Outcomes.{inRange};
-ghost use Rattle.limits.specs.Checked.{tableChecked};
+ghost use Rattle.limits.specs.Checked.{lengthsRight, entriesChecked, tableChecked};
 use rules::Refusal;
 
 // Whether all entries are within the limit, or the refusal of the first that is not.
@@ -41,4 +41,46 @@ pub fn check_table(w: usize, number: usize, table: &[i64]) -> Entries
         });
     }
     Entries::Good
+}
+
+// Whether the nine tables have their lengths.
+pub fn right_lengths(
+    n: usize,
+    m: usize,
+    k: usize,
+    equations: usize,
+    inequalities: usize,
+    substitution: usize,
+    marks: usize,
+    back: usize,
+    reasons: usize,
+    conflict: usize,
+    tightened: usize,
+    used: usize,
+) -> bool
+    requires { ⌜ (n ≤ 32) × (m ≤ 32) × (k ≤ 64) ⌝ }
+    ensures { λ r. ⌜ r ≡ lengthsRight n m k equations inequalities substitution marks back reasons conflict tightened used ⌝ }
+{
+    let w = n + 1;
+    let mut right = equations == m * w;
+    right = right & (inequalities == k * w);
+    right = right & (substitution == n * w);
+    right = right & (marks == n);
+    right = right & (back == n * w);
+    right = right & (reasons == n * (m + 1));
+    right = right & (conflict == m + 1);
+    right = right & (tightened == k * w);
+    right & (used == k)
+}
+
+// Refusal 3: the whole table of the equations before that of the inequalities.
+pub fn check_entries(n: usize, equations: &[i64], inequalities: &[i64]) -> Entries
+    requires { ⌜ n ≤ 32 ⌝ }
+    ensures { λ r. ⌜ r ≡ entriesChecked n (now (equations .entry)) (now (inequalities .entry)) ⌝ }
+{
+    let first = check_table(n + 1, 0, equations);
+    match first {
+        Entries::Bad(refusal) => Entries::Bad(refusal),
+        Entries::Good => check_table(n + 1, 1, inequalities),
+    }
 }

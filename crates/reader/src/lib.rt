@@ -46,8 +46,8 @@ pub fn read(text: &[u8], equations: &mut [i64], inequalities: &mut [i64]) -> Rea
     if inequalities.len() != 2112 {
         return Reading::Unread(Refusal::WrongLength);
     }
-    tables::fill(equations, 0);
-    tables::fill(inequalities, 0);
+    copying::fill(equations, 0);
+    copying::fill(inequalities, 0);
     if 65536 < text.len() {
         return Reading::Unread(Refusal::LongText);
     }

@@ -17,8 +17,7 @@ use Rattle.rules.specs.Elimination.{elimination}
 use Rattle.rules.specs.Outcomes.{Results, Answer, badEntry, blank, inRange, rightLengths, afterRun, fromEntries, solve}
 use Rattle.limits.specs.declared.Entries.{Entries}
 use Rattle.limits.specs.declared.Entries.the-variants.{Good, Bad}
-use Rattle.limits.specs.Checked.{tableChecked}
-use Rattle.solver.specs.Answered.{lengthsRight, entriesChecked}
+use Rattle.limits.specs.Checked.{lengthsRight, entriesChecked}
 
 -- ---- what the checks tell: n, m and k are in range
 pub in-range : (n m k : ℕ) → inRange n m k ≡ true → (1 ≤ n) × (n ≤ 32) × (m ≤ 32) × (k ≤ 64)
@@ -79,23 +78,6 @@ module _ (n : ℕ) (equations inequalities : List ℤ) where
         | true ↦ elim second [ true ↦ Good | false ↦ Bad (badEntry (suc n) 1 inequalities) ]
         | false ↦ Bad (badEntry (suc n) 0 equations)
       ]
-
-  -- where the equations are good, what the inequalities tell
-  pub first-good : Good ≡ tableChecked (suc n) 0 equations → tableChecked (suc n) 1 inequalities ≡ entriesChecked n equations inequalities
-  first-good = go (allWithin equations)
-    where
-      go : (b : Bool) → Good ≡ elim b [ true ↦ Good | false ↦ Bad (badEntry (suc n) 0 equations) ]
-          → tableChecked (suc n) 1 inequalities ≡ elim b [ true ↦ tableChecked (suc n) 1 inequalities | false ↦ Bad (badEntry (suc n) 0 equations) ]
-      go true h = refl
-      go false h = let z : _≡_ {A = ℕ} 0 1 = cc in absurd (omega arith)
-
-  pub first-bad : (refusal : Refusal) → Bad refusal ≡ tableChecked (suc n) 0 equations → Bad refusal ≡ entriesChecked n equations inequalities
-  first-bad refusal = go (allWithin equations)
-    where
-      go : (b : Bool) → Bad refusal ≡ elim b [ true ↦ Good | false ↦ Bad (badEntry (suc n) 0 equations) ]
-          → Bad refusal ≡ elim b [ true ↦ tableChecked (suc n) 1 inequalities | false ↦ Bad (badEntry (suc n) 0 equations) ]
-      go true h = let z : _≡_ {A = ℕ} 0 1 = cc in absurd (omega arith)
-      go false h = h
 
   pub entries-good : Good ≡ entriesChecked n equations inequalities → (allWithin equations ≡ true) × (allWithin inequalities ≡ true)
   unfolding checked

@@ -10,7 +10,7 @@ use Rattle.rules.specs.declared.Outcome.the-variants.{Open, EquationConflict, O
 use Rattle.rules.specs.Elimination.{State, Ended, finished, conflicting, tooLarge}
 use Rattle.rules.specs.Inequalities.{firstRow, firstPair}
 use Rattle.rules.specs.Outcomes.{Answer, blank, conflictFilled, allFilled, lookedAt, withInequalities, afterRun}
-use Rattle.solver.specs.Answered.{answer}
+use Rattle.outcomes.specs.Answered.{answer}
 
 -- any outcome but open, which a run that finishes has where there are no inequalities
 abbrev pub NotOpen : Outcome → Type 0

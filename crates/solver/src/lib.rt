@@ -2,104 +2,16 @@
 ghost use mathlib.Core.Path.{_≡_};
 ghost use mathlib.Core.Bool.{true};
 ghost use Prim.Native.Nat.{suc, _≤_, _*_};
-ghost use lib.IntN.{pos};
-ghost use lib.ListN.{length, replicate};
+ghost use lib.ListN.{length};
 ghost use Rattle.rows.specs.Row.{allWithin};
 ghost use Rattle.rows.specs.Table.{rowsOf};
 ghost use Rattle.rules.specs.Elimination.{elimination as eliminationOf};
-ghost use Rattle.rules.specs.Outcomes.{lookedAt, withInequalities as withInequalitiesOf, afterRun, fromEntries, solve as solveOf};
-ghost use Rattle.elimination.specs.Ran.{stateOf};
+ghost use Rattle.rules.specs.Outcomes.{afterRun, fromEntries, solve as solveOf};
 ghost use Rattle.solver.specs.Answered.{answer, tables as tablesOf};
-
-mod checks;
-
-use elimination::Ran;
+use all_rows::Ran;
 use limits::Entries;
 use rules::Outcome;
 use rules::Refusal;
-
-// The two looks for a conflict among the tightened rows.
-fn look(tightened: &[i64], n: usize, k: usize, steps: usize) -> Outcome
-    requires { ⌜ (n ≤ 32) × (k ≤ 64) × (length (now tightened) ≡ k * suc n) × (allWithin (now tightened) ≡ true) ⌝ }
-    ensures { λ r. ⌜ r ≡ lookedAt n 0 k steps (rowsOf (suc n) k (now (tightened .entry))) ⌝ }
-{
-    let one = tightening::first_alone(tightened, k, n);
-    if one != 0 {
-        return Outcome::OneRowConflict { i: one, steps };
-    }
-    let pair = tightening::first_pair(tightened, k, n);
-    if pair.i != 0 {
-        return Outcome::TwoRowConflict {
-            i: pair.i,
-            j: pair.j,
-            steps,
-        };
-    }
-    Outcome::Open { steps }
-}
-
-// All seven result tables full of zeros.
-fn clear(
-    substitution: &mut [i64],
-    marks: &mut [u8],
-    back: &mut [i64],
-    reasons: &mut [i64],
-    conflict: &mut [i64],
-    tightened: &mut [i64],
-    used: &mut [u64],
-)
-    ensures run { λ _. ⌜ (now (substitution .exit) ≡ replicate (length (now (substitution .entry))) (pos 0)) × (now (marks .exit) ≡ replicate (length (now (marks .entry))) 0) × (now (back .exit) ≡ replicate (length (now (back .entry))) (pos 0)) × (now (reasons .exit) ≡ replicate (length (now (reasons .entry))) (pos 0)) ⌝ }
-    ensures rest { λ _. ⌜ (now (conflict .exit) ≡ replicate (length (now (conflict .entry))) (pos 0)) × (now (tightened .exit) ≡ replicate (length (now (tightened .entry))) (pos 0)) × (now (used .exit) ≡ replicate (length (now (used .entry))) 0) ⌝ }
-{
-    elimination::clear(substitution, marks, back, reasons);
-    tables::fill(conflict, 0);
-    tables::fill(tightened, 0);
-    tables::fill_sets(used, 0);
-}
-
-// The inequalities after a run that finished: all rows are worked before a conflict is looked for.
-fn with_inequalities(
-    n: usize,
-    m: usize,
-    k: usize,
-    steps: usize,
-    inequalities: &[i64],
-    substitution: &mut [i64],
-    marks: &mut [u8],
-    back: &mut [i64],
-    reasons: &mut [i64],
-    conflict: &mut [i64],
-    tightened: &mut [i64],
-    used: &mut [u64],
-) -> Outcome
-    requires { ⌜ (n ≤ 32) × (m ≤ 32) × (k ≤ 64) × (length (now inequalities) ≡ k * suc n) × (length (now substitution) ≡ n * suc n) × (length (now marks) ≡ n) × (length (now back) ≡ n * suc n) × (length (now reasons) ≡ n * suc m) ⌝ }
-    requires { ⌜ (now conflict ≡ replicate (suc m) (pos 0)) × (length (now tightened) ≡ k * suc n) × (length (now used) ≡ k) × (allWithin (now inequalities) ≡ true) × (allWithin (now substitution) ≡ true) ⌝ }
-    ensures { λ r. ⌜ answer r (now (substitution .exit)) (now (marks .exit)) (now (back .exit)) (now (reasons .exit)) (now (conflict .exit)) (now (tightened .exit)) (now (used .exit)) ≡ withInequalitiesOf n m k (rowsOf (suc n) k (now (inequalities .entry))) (stateOf n m (now (substitution .entry)) (now (marks .entry)) (now (back .entry)) (now (reasons .entry)) steps) ⌝ }
-{
-    let bad = tightening::work_rows(
-        tightened,
-        used,
-        inequalities,
-        substitution,
-        marks,
-        reasons,
-        n,
-        m,
-    );
-    if bad != 0 {
-        clear(
-            substitution,
-            marks,
-            back,
-            reasons,
-            conflict,
-            tightened,
-            used,
-        );
-        return Outcome::Refused(Refusal::LargeSum { inequality: bad });
-    }
-    look(tightened, n, k, steps)
-}
 
 // The run and the inequalities, on tables of the right lengths with all entries within the limit.
 fn solve_good(
@@ -132,7 +44,7 @@ fn solve_good(
         m,
     );
     match ran {
-        Ran::Finished(steps) => with_inequalities(
+        Ran::Finished(steps) => outcomes::with_inequalities(
             n,
             m,
             k,
@@ -147,13 +59,13 @@ fn solve_good(
             used,
         ),
         Ran::Conflict { row, steps } => {
-            tables::fill(tightened, 0);
-            tables::fill_sets(used, 0);
+            copying::fill(tightened, 0);
+            copying::fill_sets(used, 0);
             Outcome::EquationConflict { row, steps }
         }
         Ran::Grown { row, steps } => {
-            tables::fill(tightened, 0);
-            tables::fill_sets(used, 0);
+            copying::fill(tightened, 0);
+            copying::fill_sets(used, 0);
             Outcome::Refused(Refusal::TooLarge { row, steps })
         }
     }
@@ -178,10 +90,10 @@ fn solve_long(
     requires { ⌜ (length (now substitution) ≡ n * suc n) × (length (now marks) ≡ n) × (length (now back) ≡ n * suc n) × (length (now reasons) ≡ n * suc m) × (length (now conflict) ≡ suc m) × (length (now tightened) ≡ k * suc n) × (length (now used) ≡ k) ⌝ }
     ensures { λ r. ⌜ answer r (now (substitution .exit)) (now (marks .exit)) (now (back .exit)) (now (reasons .exit)) (now (conflict .exit)) (now (tightened .exit)) (now (used .exit)) ≡ fromEntries n m k (now (equations .entry)) (now (inequalities .entry)) ⌝ }
 {
-    let entries = checks::check_entries(n, equations, inequalities);
+    let entries = limits::check_entries(n, equations, inequalities);
     match entries {
         Entries::Bad(refusal) => {
-            clear(
+            filling::clear(
                 substitution,
                 marks,
                 back,
@@ -229,7 +141,7 @@ pub fn solve(
     if !limits::in_range(n, m, k) {
         return Outcome::Refused(Refusal::OutOfRange);
     }
-    if !checks::right_lengths(
+    if !limits::right_lengths(
         n,
         m,
         k,

@@ -18,7 +18,7 @@ use Rattle.rows.specs.Row.{at, less, scaled, gcdOf, divided, allWithin}
 use Rattle.rows.proofs.Bounded.{and-left, and-right, and-both, bounded-nil, bounded-cons, bounded-append, bounded-set, bounded-divided}
 use Rattle.rules.specs.Elimination.{Carried, shared, lowestTerms, byGcd, reduced, factor, lost, corrected, numbersOf, listedA, listedD}
 use Rattle.steps.specs.Shown.{made, beyond, tried, carry}
-use Rattle.steps.proofs.TurnedTables.{tried-fits, tried-made as tried-same-made}
+use Rattle.steps.proofs.Attempts.{tried-fits, tried-made as tried-same-made}
 
 -- ---- what an attempt tells that is known to be made, or to be refused
 pub tried-made : {A : Type 0} (fits : Bool) (a b : A) → made a ≡ tried fits b → (fits ≡ true) × (a ≡ b)

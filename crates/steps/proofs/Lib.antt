@@ -1,9 +1,3 @@
--- Laws of the steps of the run.
+-- Laws of the steps on one row.
+pub mod Attempts
 pub mod CorrectedRow
-pub mod CorrectedRows
-pub mod ShutRows
-pub mod ShutReasons
-pub mod TurnedRows
-pub mod TurnedTables
-pub mod TurnedStep
-pub mod ShutTables

@@ -1,4 +1,3 @@
--- Laws of loops over a whole table and over the rows of a table.
-pub mod Filled
+-- Laws of loops over the rows of a table.
 pub mod Rowed
 pub mod Multiples

@@ -1,33 +1,22 @@
--- What `blend`, `put_in` and `gather` make of rows: one column or one row more, and how far from 0 the numbers get.
-use mathlib.Core.Path.{_≡_, refl, sym, ap, ap₂, _∙_}
-use mathlib.Core.Bool.{Bool, true, _&&_, and-true}
+-- What `put_in` and `gather` make of rows: one row more, and how far from 0 the numbers get.
+use mathlib.Core.Path.{_≡_, refl, ap, ap₂, _∙_}
+use mathlib.Core.Bool.{Bool, true, _&&_}
 use mathlib.Core.List.{List, [], _∷_, _++_}
 use Prim.Native.Nat.{ℕ, _+_, _*_, _^_, _≤_, _<_}
 use native.Mathlib.Omega.{arith}
 use lib.ListN.{length, drop, drop-of-length-le}
-use lib.IntN.{ℤ, pos, negℤ, natAbs, _-ℤ_, _*ℤ_}
+use lib.IntN.{ℤ, pos, negℤ, natAbs, _-ℤ_}
 use mir.Syntax.{w64}
 use mir.Val.{toZ, ofZ}
 use Rattle.whole.specs.Limit.{W}
 use Rattle.whole.proofs.Integers.{natAbs-neg}
 use Rattle.whole.proofs.Reify.{reify, ring}
 use Rattle.whole.proofs.Steps.{steps, read-by}
-use Rattle.rows.specs.Row.{at, less, scaled, gathered, bounded, allWithin}
+use Rattle.rows.specs.Row.{at, less, gathered, bounded, allWithin}
 use Rattle.rows.specs.Table.{rowAt}
 use Rattle.rows.proofs.Lists.{tail-at}
-use Rattle.rows.proofs.Bounded.{bounded-nil, bounded-take, bounded-drop, bounded-mono, bounded-less, bounded-append}
+use Rattle.rows.proofs.Bounded.{bounded-take, bounded-drop, bounded-mono, bounded-less, bounded-append}
 use Rattle.tables.proofs.Rowed.{rowsFrom, rows-more}
-
--- ---- p times a row less q times another, from column i on
-pub blend-none : (p q : ℤ) (row other : List ℤ) (i : ℕ) → length row ≤ i → less (scaled p (drop i row)) q (drop i other) ≡ []
-unfolding less scaled
-blend-none p q row other i h = rw (drop-of-length-le row h)
-
-pub blend-more : (p q : ℤ) (row other : List ℤ) (i : ℕ) → i < length row → i < length other
-    → less (scaled p (drop i row)) q (drop i other)
-    ≡ (p *ℤ at row i -ℤ q *ℤ at other i) ∷ less (scaled p (drop (i + 1) row)) q (drop (i + 1) other)
-unfolding less scaled
-blend-more p q row other i h k = rw (tail-at row i (pos 0) h, tail-at other i (pos 0) k)
 
 -- ---- no times another row taken from a row
 pub less-zero : (row other : List ℤ) → less row (pos 0) other ≡ row
@@ -51,10 +40,6 @@ within-row w r t e = bounded-take W w (drop (r * w) t) (bounded-drop W (r * w) t
 -- such a row leaves the answer to the rows behind it
 pub within-past : (row rest : List ℤ) → allWithin row ≡ true → allWithin (row ++ rest) ≡ allWithin rest
 within-past row rest e = bounded-append W row rest ∙ ap (λ (b : Bool). b && allWithin rest) e
-
--- with nothing left, the answer so far is the answer
-pub within-end : (fits : Bool) (ahead goal : List ℤ) → ahead ≡ [] → fits && allWithin ahead ≡ allWithin goal → fits ≡ allWithin goal
-within-end fits ahead goal none e = sym (and-true fits) ∙ ap (λ (b : Bool). fits && b) (sym (bounded-nil W) ∙ ap allWithin (sym none)) ∙ e
 
 -- ---- rows gathered, from row r on
 module _ (row cs : List ℤ) (w r : ℕ) (t : List ℤ) where

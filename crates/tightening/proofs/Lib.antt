@@ -1,8 +1,3 @@
--- Laws of the functions on inequalities.
-pub mod Zeros
-pub mod Reasons
+-- Laws of the parts of the work on one inequality.
 pub mod OpenColumns
 pub mod TightRow
-pub mod FirstRows
-pub mod Conflicts
-pub mod WorkedRows

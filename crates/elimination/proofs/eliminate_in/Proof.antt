@@ -3,9 +3,9 @@ use mathlib.Core.Path.{_≡_, sym, ap, _∙_, subst}
 use Prim.Native.Nat.{ℕ, suc, _*_}
 use lib.ListN.{length, replicate, length-replicate}
 use lib.IntN.{pos}
-use Rattle.elimination.specs.declared.Ran.{Ran}
-use Rattle.elimination.specs.declared.Ran.the-variants.{Finished, Conflict, Grown}
-use Rattle.elimination.specs.Ran.{ranShown, EndsWithD}
+use Rattle.all_rows.specs.declared.Ran.{Ran}
+use Rattle.all_rows.specs.declared.Ran.the-variants.{Finished, Conflict, Grown}
+use Rattle.all_rows.specs.Ran.{ranShown, EndsWithD}
 use Rattle.elimination.proofs.Begun.{unitTable, working-from, results-from, run-from}
 use Rattle.elimination.proofs.Ended.{ended, asked-finished, asked-conflict, asked-grown}
 use borrow.Author.Needs.{needs}
@@ -19,7 +19,7 @@ units-requires : tie.Need-units-requires
 units-requires c κs = search needs
 
 fill-sets-requires : tie.Need-fill-sets-requires
-fill-sets-requires c κs = search needs
+fill-sets-requires c κs = tt
 
 begin-requires : tie.Need-begin-requires
 begin-requires c κs = search needs
@@ -57,22 +57,22 @@ enum-known-ran : tie.Need-enum-known-ran
 enum-known-ran c = search needs
 
 fill-requires : tie.Need-fill-requires
-fill-requires c κs = search needs
+fill-requires c κs = tt
 
 enum-known-ran-2 : tie.Need-enum-known-ran-2
 enum-known-ran-2 c = search needs
 
-clear-requires : tie.Need-clear-requires
-clear-requires c κs = search needs
+clear-run-requires : tie.Need-clear-run-requires
+clear-run-requires c κs = tt
 
 enum-known-ran-3 : tie.Need-enum-known-ran-3
 enum-known-ran-3 c = search needs
 
-clear-requires-2 : tie.Need-clear-requires-2
-clear-requires-2 c κs = search needs
+clear-run-requires-2 : tie.Need-clear-run-requires-2
+clear-run-requires-2 c κs = tt
 
 fill-requires-2 : tie.Need-fill-requires-2
-fill-requires-2 c κs = search needs
+fill-requires-2 c κs = tt
 
 -- what the answer and the tables then show is how the definitions end
 module _ (i : tie.After-in-order) where
@@ -127,19 +127,19 @@ same-length-3 : tie.Need-same-length-3
 same-length-3 c = divisors-same (c .before .before .before .before .before .before .before .before .before .before .before .before .before .before .before .before)
 
 same-length-4 : tie.Need-same-length-4
-same-length-4 c = search needs
+same-length-4 c = substitution-long (c .before .before .before .before .before .before .before .before .before .before .before .before .before .before .before .before)
 
 same-length-5 : tie.Need-same-length-5
-same-length-5 c = search needs
+same-length-5 c = marks-long (c .before .before .before .before .before .before .before .before .before .before .before .before .before .before .before .before)
 
 same-length-6 : tie.Need-same-length-6
-same-length-6 c = search needs
+same-length-6 c = back-long (c .before .before .before .before .before .before .before .before .before .before .before .before .before .before .before .before)
 
 same-length-7 : tie.Need-same-length-7
-same-length-7 c = search needs
+same-length-7 c = reasons-long (c .before .before .before .before .before .before .before .before .before .before .before .before .before .before .before .before)
 
 same-length-8 : tie.Need-same-length-8
-same-length-8 c = search needs
+same-length-8 c = c .before .fill .kept .0 ∙ conflict-long (c .before .before .before .before .before .before .before .before .before .before .before .before .before .before .before .before)
 
 returns : tie.Need-returns
 returns c =
@@ -163,19 +163,19 @@ same-length-11 : tie.Need-same-length-11
 same-length-11 c = divisors-same (c .before .before .before .before .before .before .before .before .before .before .before .before .before .before .before .before .before .before .before .before .before .before .before)
 
 same-length-12 : tie.Need-same-length-12
-same-length-12 c = search needs
+same-length-12 c = c .before .before .before .before .before .clear-run .kept .0 ∙ substitution-long (c .before .before .before .before .before .before .before .before .before .before .before .before .before .before .before .before .before .before .before .before .before .before .before)
 
 same-length-13 : tie.Need-same-length-13
-same-length-13 c = search needs
+same-length-13 c = c .before .before .before .before .before .clear-run .kept .1 .0 ∙ marks-long (c .before .before .before .before .before .before .before .before .before .before .before .before .before .before .before .before .before .before .before .before .before .before .before)
 
 same-length-14 : tie.Need-same-length-14
-same-length-14 c = search needs
+same-length-14 c = c .before .before .before .before .before .clear-run .kept .1 .1 .0 ∙ back-long (c .before .before .before .before .before .before .before .before .before .before .before .before .before .before .before .before .before .before .before .before .before .before .before)
 
 same-length-15 : tie.Need-same-length-15
-same-length-15 c = search needs
+same-length-15 c = c .before .before .before .before .before .clear-run .kept .1 .1 .1 .0 ∙ reasons-long (c .before .before .before .before .before .before .before .before .before .before .before .before .before .before .before .before .before .before .before .before .before .before .before)
 
 same-length-16 : tie.Need-same-length-16
-same-length-16 c = search needs
+same-length-16 c = conflict-long (c .before .before .before .before .before .before .before .before .before .before .before .before .before .before .before .before .before .before .before .before .before .before .before)
 
 returns-2 : tie.Need-returns-2
 returns-2 c =
@@ -184,11 +184,11 @@ returns-2 c =
     let row = c .before .before .before .before .before .before .before .before .before .before .before .ran2 .given .0 .0 in
     let steps = c .before .before .before .before .before .before .before .before .before .before .before .ran2 .given .0 .1 .0 in
     let e = c .before .before .before .before .before .before .before .before .before .before .before .ran2 .given .1 in
-    asked-conflict (start i .args .n) (start i .args .m) (start i .args .equations .now) (c .before .before .before .before .before .clear .last .0) (c .before .before .before .before .before .clear .last .1 .0) (c .before .before .before .before .before .clear .last .1 .1 .0) (c .before .before .before .before .before .clear .last .1 .1 .1 .0)
-    (c .before .before .before .before .before .clear .ensures .0 ∙ ap (λ (k : ℕ). replicate k (pos 0)) (substitution-long i ∙ p .0))
-    (c .before .before .before .before .before .clear .ensures .1 .0 ∙ ap (λ (k : ℕ). replicate k 0) (marks-long i ∙ p .1))
-    (c .before .before .before .before .before .clear .ensures .1 .1 .0 ∙ ap (λ (k : ℕ). replicate k (pos 0)) (back-long i ∙ p .2))
-    (c .before .before .before .before .before .clear .ensures .1 .1 .1 ∙ ap (λ (k : ℕ). replicate k (pos 0)) (reasons-long i ∙ p .3))
+    asked-conflict (start i .args .n) (start i .args .m) (start i .args .equations .now) (c .before .before .before .before .before .clear-run .last .0) (c .before .before .before .before .before .clear-run .last .1 .0) (c .before .before .before .before .before .clear-run .last .1 .1 .0) (c .before .before .before .before .before .clear-run .last .1 .1 .1 .0)
+    (c .before .before .before .before .before .clear-run .ensures .0 ∙ ap (λ (k : ℕ). replicate k (pos 0)) (substitution-long i ∙ p .0))
+    (c .before .before .before .before .before .clear-run .ensures .1 .0 ∙ ap (λ (k : ℕ). replicate k 0) (marks-long i ∙ p .1))
+    (c .before .before .before .before .before .clear-run .ensures .1 .1 .0 ∙ ap (λ (k : ℕ). replicate k (pos 0)) (back-long i ∙ p .2))
+    (c .before .before .before .before .before .clear-run .ensures .1 .1 .1 ∙ ap (λ (k : ℕ). replicate k (pos 0)) (reasons-long i ∙ p .3))
     row
     steps
     (i .in-order .last .1 .1 .1 .1 .1 .1 .1 .0)
@@ -206,19 +206,19 @@ same-length-19 : tie.Need-same-length-19
 same-length-19 c = divisors-same (c .before .before .before .before .before .before .before .before .before .before .before .before .before .before .before .before .before .before .before .before .before .before .before .before .before .before)
 
 same-length-20 : tie.Need-same-length-20
-same-length-20 c = c .before .before .before .before .before .before .before .before .clear2 .kept .0 ∙ substitution-long (c .before .before .before .before .before .before .before .before .before .before .before .before .before .before .before .before .before .before .before .before .before .before .before .before .before .before)
+same-length-20 c = c .before .before .before .before .before .before .before .before .clear-run2 .kept .0 ∙ substitution-long (c .before .before .before .before .before .before .before .before .before .before .before .before .before .before .before .before .before .before .before .before .before .before .before .before .before .before)
 
 same-length-21 : tie.Need-same-length-21
-same-length-21 c = c .before .before .before .before .before .before .before .before .clear2 .kept .1 .0 ∙ marks-long (c .before .before .before .before .before .before .before .before .before .before .before .before .before .before .before .before .before .before .before .before .before .before .before .before .before .before)
+same-length-21 c = c .before .before .before .before .before .before .before .before .clear-run2 .kept .1 .0 ∙ marks-long (c .before .before .before .before .before .before .before .before .before .before .before .before .before .before .before .before .before .before .before .before .before .before .before .before .before .before)
 
 same-length-22 : tie.Need-same-length-22
-same-length-22 c = c .before .before .before .before .before .before .before .before .clear2 .kept .1 .1 .0 ∙ back-long (c .before .before .before .before .before .before .before .before .before .before .before .before .before .before .before .before .before .before .before .before .before .before .before .before .before .before)
+same-length-22 c = c .before .before .before .before .before .before .before .before .clear-run2 .kept .1 .1 .0 ∙ back-long (c .before .before .before .before .before .before .before .before .before .before .before .before .before .before .before .before .before .before .before .before .before .before .before .before .before .before)
 
 same-length-23 : tie.Need-same-length-23
-same-length-23 c = search needs
+same-length-23 c = c .before .before .before .before .before .before .before .before .clear-run2 .kept .1 .1 .1 .0 ∙ reasons-long (c .before .before .before .before .before .before .before .before .before .before .before .before .before .before .before .before .before .before .before .before .before .before .before .before .before .before)
 
 same-length-24 : tie.Need-same-length-24
-same-length-24 c = search needs
+same-length-24 c = c .before .fill2 .kept .0 ∙ conflict-long (c .before .before .before .before .before .before .before .before .before .before .before .before .before .before .before .before .before .before .before .before .before .before .before .before .before .before)
 
 returns-3 : tie.Need-returns-3
 returns-3 c =
@@ -226,11 +226,11 @@ returns-3 c =
     let p = start i .pre .1 .1 in
     let row = c .before .before .before .before .before .before .before .before .before .before .before .before .before .before .ran3 .given .0 .0 in
     let steps = c .before .before .before .before .before .before .before .before .before .before .before .before .before .before .ran3 .given .0 .1 .0 in
-    asked-grown (start i .args .n) (start i .args .m) (start i .args .equations .now) (c .before .before .before .before .before .before .before .before .clear2 .last .0) (c .before .before .before .before .before .before .before .before .clear2 .last .1 .0) (c .before .before .before .before .before .before .before .before .clear2 .last .1 .1 .0) (c .before .before .before .before .before .before .before .before .clear2 .last .1 .1 .1 .0)
-    (c .before .before .before .before .before .before .before .before .clear2 .ensures .0 ∙ ap (λ (k : ℕ). replicate k (pos 0)) (substitution-long i ∙ p .0))
-    (c .before .before .before .before .before .before .before .before .clear2 .ensures .1 .0 ∙ ap (λ (k : ℕ). replicate k 0) (marks-long i ∙ p .1))
-    (c .before .before .before .before .before .before .before .before .clear2 .ensures .1 .1 .0 ∙ ap (λ (k : ℕ). replicate k (pos 0)) (back-long i ∙ p .2))
-    (c .before .before .before .before .before .before .before .before .clear2 .ensures .1 .1 .1 ∙ ap (λ (k : ℕ). replicate k (pos 0)) (reasons-long i ∙ p .3))
+    asked-grown (start i .args .n) (start i .args .m) (start i .args .equations .now) (c .before .before .before .before .before .before .before .before .clear-run2 .last .0) (c .before .before .before .before .before .before .before .before .clear-run2 .last .1 .0) (c .before .before .before .before .before .before .before .before .clear-run2 .last .1 .1 .0) (c .before .before .before .before .before .before .before .before .clear-run2 .last .1 .1 .1 .0)
+    (c .before .before .before .before .before .before .before .before .clear-run2 .ensures .0 ∙ ap (λ (k : ℕ). replicate k (pos 0)) (substitution-long i ∙ p .0))
+    (c .before .before .before .before .before .before .before .before .clear-run2 .ensures .1 .0 ∙ ap (λ (k : ℕ). replicate k 0) (marks-long i ∙ p .1))
+    (c .before .before .before .before .before .before .before .before .clear-run2 .ensures .1 .1 .0 ∙ ap (λ (k : ℕ). replicate k (pos 0)) (back-long i ∙ p .2))
+    (c .before .before .before .before .before .before .before .before .clear-run2 .ensures .1 .1 .1 ∙ ap (λ (k : ℕ). replicate k (pos 0)) (reasons-long i ∙ p .3))
     row
     steps
     (c .before .fill2 .last .0)
@@ -249,9 +249,9 @@ eliminate-in-spec =
     enum-known-ran
     fill-requires
     enum-known-ran-2
-    clear-requires
+    clear-run-requires
     enum-known-ran-3
-    clear-requires-2
+    clear-run-requires-2
     fill-requires-2
     same-length
     same-length-2

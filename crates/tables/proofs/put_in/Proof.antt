@@ -21,7 +21,8 @@ use Rattle.rows.proofs.Bounded.{bounded-at, bounded-mono, bounded-append}
 use Rattle.rows.proofs.Algebra.{length-less}
 use Rattle.rows.proofs.TableLaws.{length-rowAt}
 use Rattle.tables.proofs.Rowed.{Rowed, ahead-of, whole-of, ahead-start, ahead-none, ahead-more, rowed-start, rowed-row, rowed-read, rowed-step, rowed-past, rowed-end}
-use Rattle.tables.proofs.Multiples.{without, without-none, within-row, within-past, within-end}
+use Rattle.multiples.proofs.Blended.{within-end}
+use Rattle.tables.proofs.Multiples.{without, without-none, within-row, within-past}
 use Rattle.tables.proofs.put_in.Statement.{statement}
 use Rattle.tables.proofs.put_in.Tie as tie
 

@@ -4,7 +4,7 @@ use mathlib.Core.Bool.{true}
 use borrow.Author.Tests.{not-false}
 use lib.ListN.{length}
 use Rattle.rules.specs.Outcomes.{Results, inRange, rightLengths}
-use Rattle.solver.specs.Answered.{tables}
+use Rattle.outcomes.specs.Answered.{tables}
 use Rattle.solver.proofs.Called.{Long, all-long}
 use Rattle.solver.proofs.solve.Tie as tie
 

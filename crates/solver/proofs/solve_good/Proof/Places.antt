@@ -10,12 +10,13 @@ use Rattle.rows.specs.Table.{rowsOf}
 use Rattle.rules.specs.declared.Outcome.{Outcome}
 use Rattle.rules.specs.Elimination.{finished, elimination}
 use Rattle.rules.specs.Outcomes.{afterRun}
-use Rattle.elimination.specs.declared.Ran.{Ran}
-use Rattle.elimination.specs.Ran.{stateOf, FinishedAs}
-use Rattle.solver.specs.Answered.{answer}
-use Rattle.solver.proofs.Tabled.{same-answer}
+use Rattle.all_rows.specs.declared.Ran.{Ran}
+use Rattle.stepping.specs.Worked.{stateOf}
+use Rattle.elimination.specs.Eliminated.{FinishedAs}
+use Rattle.outcomes.specs.Answered.{answer}
+use Rattle.outcomes.proofs.Tabled.{same-answer}
 use Rattle.solver.proofs.Ended.{NotOpen, alone, after-end, no-conflict}
-use Rattle.solver.proofs.Finished.{substitution-within}
+use Rattle.outcomes.proofs.Finished.{substitution-within}
 use Rattle.solver.proofs.solve_good.Tie as tie
 
 -- ---- after the run: its tables, of the lengths that they came with

@@ -1,0 +1,3 @@
+-- Laws of step (d).
+pub mod CorrectedRows
+pub mod ShutTables

@@ -1,0 +1,2 @@
+-- Laws of loops over a whole table.
+pub mod Filled

@@ -1,0 +1,2 @@
+-- Laws of the tables that the run starts with.
+pub mod UnitRows

@@ -1,0 +1,2 @@
+-- Laws of the inequalities worked one after the other.
+pub mod WorkedRows

@@ -1,0 +1,2 @@
+-- Laws of a row and a multiple of another.
+pub mod Blended

@@ -1,0 +1,3 @@
+-- Laws of the work on one row.
+pub mod Works
+pub mod Starts

@@ -1,0 +1,109 @@
+-- The cases of the work on a row, before its steps.
+use mathlib.Core.Path.{_≡_, refl, sym, ap, _∙_}
+use mathlib.Core.Bool.{Bool, true, false}
+use mathlib.Core.List.{List, [], _∷_, _++_}
+use Prim.Native.Nat.{ℕ, zero, suc, _*_, _≤_, _<_}
+use native.Mathlib.Omega.{arith}
+use borrow.Author.Tests.{eq-eqb, ne-eqb, lt-leb, leb-true}
+use lib.Dec.{eqb, leb}
+use lib.ListN.{take}
+use lib.Seq.{getD-take, take-take}
+use lib.IntN.{ℤ, pos, natAbs}
+use Rattle.whole.specs.Limit.{W}
+use Rattle.whole.specs.Gcd.{gcd}
+use Rattle.whole.specs.BitLength.{bitLength, halvings}
+use Rattle.whole.proofs.GcdLaws.{gcd-zero-l, gcd-le}
+use Rattle.whole.proofs.BitLengthLaws.{bitLength-mono}
+use Rattle.rows.specs.Row.{at, gcdOf, smallest, allWithin}
+use Rattle.rows.proofs.Bounded.{and-left, and-right, bounded-nil, bounded-cons}
+use Rattle.rules.proofs.RowInHand.{column-below}
+use Rattle.steps.specs.Shown.{carry}
+use Rattle.rules.specs.Elimination.{stepOf, Carried, State, gcdOfCoefficients, lowestTerms, byGcd, reduced, numbersOf, listedA, stepBound, stepping, fromB, work, Worked, passed, unmet, large}
+use Rattle.stepping.proofs.Turns.{choose, chosen-true, chosen-false}
+
+module _ (n : ℕ) (e : Carried) (later : List Carried) (s : State) where
+  reducedFrom : Worked
+  reducedFrom = fromB allWithin n (reduced (gcdOf (e .row)) e) later s
+
+  -- "If g = 0 the row is done."
+  pub work-done : gcdOf (e .row) ≡ 0 → work allWithin n e later s ≡ passed later s
+  unfolding work reducedFrom
+  work-done z = chosen-true (eqb (gcdOf (e .row)) 0) (passed later s) (choose (allWithin (listedA (gcdOf (e .row)) e)) reducedFrom (large (s .steps))) (eq-eqb (gcdOf (e .row)) 0 z)
+
+  module _ (some : gcdOf (e .row) ≡ 0 → ⊥) where
+    past : work allWithin n e later s ≡ choose (allWithin (listedA (gcdOf (e .row)) e)) reducedFrom (large (s .steps))
+    unfolding work reducedFrom
+    past = chosen-false (eqb (gcdOf (e .row)) 0) (passed later s) (choose (allWithin (listedA (gcdOf (e .row)) e)) reducedFrom (large (s .steps))) (ne-eqb (gcdOf (e .row)) 0 some)
+
+    pub work-large : allWithin (listedA (gcdOf (e .row)) e) ≡ false → work allWithin n e later s ≡ large (s .steps)
+    work-large h = past ∙ chosen-false (allWithin (listedA (gcdOf (e .row)) e)) reducedFrom (large (s .steps)) h
+
+    pub work-reduced : allWithin (listedA (gcdOf (e .row)) e) ≡ true → work allWithin n e later s ≡ fromB allWithin n (reduced (gcdOf (e .row)) e) later s
+    unfolding reducedFrom
+    work-reduced h = past ∙ chosen-true (allWithin (listedA (gcdOf (e .row)) e)) reducedFrom (large (s .steps)) h
+
+  -- "If g is not 1: equation conflict"
+  steppingFrom : Worked
+  steppingFrom = stepping allWithin n (stepBound (natAbs (at (e .row) (smallest (take n (e .row)))))) e later s
+
+  pub work-unmet : (gcdOfCoefficients n e ≡ 1 → ⊥) → fromB allWithin n e later s ≡ unmet (e .multipliers) (e .divisor * gcdOfCoefficients n e) (s .steps)
+  unfolding fromB steppingFrom
+  work-unmet h =
+      chosen-false (eqb (gcdOfCoefficients n e) 1) steppingFrom (unmet (e .multipliers) (e .divisor * gcdOfCoefficients n e) (s .steps)) (ne-eqb (gcdOfCoefficients n e) 1 h)
+
+  pub work-steps : gcdOfCoefficients n e ≡ 1
+      → fromB allWithin n e later s ≡ stepping allWithin n (stepBound (natAbs (at (e .row) (smallest (take n (e .row)))))) e later s
+  unfolding fromB steppingFrom
+  work-steps h =
+      chosen-true (eqb (gcdOfCoefficients n e) 1) steppingFrom (unmet (e .multipliers) (e .divisor * gcdOfCoefficients n e) (s .steps)) (eq-eqb (gcdOfCoefficients n e) 1 h)
+
+-- where the row's gcd is 1, (a) does nothing and lists nothing
+pub one-reduced : (g : ℕ) (e : Carried) → g < 2 → reduced g e ≡ e
+unfolding reduced
+one-reduced g e h = ap (λ (b : Bool). elim b as (λ x. Carried) [ true ↦ lowestTerms (byGcd g e) | false ↦ e ]) (lt-leb 2 g h)
+
+pub one-listed : (g : ℕ) (e : Carried) → g < 2 → allWithin (listedA g e) ≡ true
+unfolding listedA
+one-listed g e h = ap (λ (b : Bool). allWithin (elim b as (λ x. List ℤ) [ true ↦ numbersOf (byGcd g e) ++ numbersOf (lowestTerms (byGcd g e)) | false ↦ [] ])) (lt-leb 2 g h) ∙ bounded-nil W
+
+-- ---- what the code reads of a row
+-- the gcd of numbers within the limit is within it
+pub gcd-within : (row : List ℤ) → allWithin row ≡ true → gcdOf row ≤ W
+unfolding gcdOf
+gcd-within [] h = omega arith
+gcd-within (a ∷ row) h =
+    let both = sym (bounded-cons W a row) ∙ h in
+    go (natAbs a) (leb-true (natAbs a) W (and-left (leb (natAbs a) W) (allWithin row) both)) (gcd-within row (and-right (leb (natAbs a) W) (allWithin row) both))
+  where
+    go : (x : ℕ) → x ≤ W → gcdOf row ≤ W → gcd x (gcdOf row) ≤ W
+    go zero l more = rw (gcd-zero-l (gcdOf row)) more
+    go (suc x) l more = omega (arith, gcd-le (suc x) (gcdOf row) (omega arith))
+
+-- the steps of a row are fewer than 64
+limit-bits : bitLength W ≡ 28
+unfolding bitLength halvings
+limit-bits = refl
+
+pub bound-small : (x : ℕ) → x ≤ W → stepBound x ≤ 64
+unfolding stepBound
+bound-small x h = omega (arith, bitLength-mono x W h, limit-bits)
+
+module _ (n : ℕ) (rows : List ℤ) where
+  -- the coefficients of the first row stand first in the table
+  first-coefficients : take n (take (suc n) rows) ≡ take n rows
+  first-coefficients = take-take n (suc n) rows (omega arith)
+
+  pub coefficients-gcd : (multipliers : List ℤ) (d : ℕ) → gcdOfCoefficients n (carry (take (suc n) rows) multipliers d) ≡ gcdOf (take n rows)
+  unfolding gcdOfCoefficients
+  coefficients-gcd multipliers d = ap gcdOf first-coefficients
+
+  least-below : 0 < gcdOf (take n rows) → smallest (take n rows) < n
+  unfolding stepOf
+  least-below h = column-below n rows h
+
+  pub bound-is : 0 < gcdOf (take n rows)
+      → stepBound (natAbs (at (take n rows) (smallest (take n rows)))) ≡ stepBound (natAbs (at (take (suc n) rows) (smallest (take n (take (suc n) rows)))))
+  bound-is h =
+      let k = smallest (take n rows) in
+      let b = least-below h in
+      rw (first-coefficients, getD-take n rows k (pos 0) b, getD-take (suc n) rows k (pos 0) (omega arith))

@@ -1,0 +1,3 @@
+-- Laws of the reason of a closed column.
+pub mod ShutRows
+pub mod ShutReasons

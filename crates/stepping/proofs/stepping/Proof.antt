@@ -1,0 +1,260 @@
+-- `stepping::stepping` meets its contract: what a turn of its loop needs, and what it returns. `Places` has the invariant, and what
+-- holds after the calls of a turn.
+use mathlib.Core.Path.{refl, sym, _∙_}
+use Prim.Native.Nat.{_-_}
+use native.Mathlib.Omega.{arith}
+use borrow.Author.Needs.{needs}
+use borrow.Author.Tests.{eq-eqb, ne-eqb}
+use lib.IntN.{natAbs}
+use Rattle.stepping.proofs.Shuts.{too-far, shut-large, shut-passes}
+use Rattle.stepping.proofs.Going.{ahead-is, going-on, gone, column-small, lead-small}
+use Rattle.stepping.proofs.stepping.Statement.{statement}
+use Rattle.stepping.proofs.stepping.Tie as tie
+use Rattle.stepping.proofs.stepping.Proof.Places.{Inv-loop, μ-loop, head, entry, more, told, long-turned, turning, column, lead, stepped, lead-back, measured, found, shut-as, long-shut}
+mod Places
+
+loop-holds : tie.Need-loop-holds Inv-loop μ-loop
+loop-holds c =
+    let s = c .before .before in (
+      record { rowsKept = refl; multipliersKept = refl; divisorsKept = refl; substitutionKept = refl; marksKept = refl; backKept = refl; reasonsKept = refl },
+      record { working = s .pre .0 .0; results = s .pre .0 .1; some = s .pre .1 .0; alive = s .pre .1 .1; budget = refl; same = refl },
+    )
+
+turn-requires : tie.Need-turn-requires Inv-loop μ-loop
+turn-requires c κs =
+    let g = c .before .before .before .before .loop .inv .1 in
+    let w = g .working in
+    let r = g .results in
+    ((w .rowsLong, g .some, r .substitutionLong, r .wayBackLong, r .small .1), (w .rowsWithin, r .substitutionWithin, r .wayBackWithin, g .alive))
+
+enum-told : tie.Need-enum-told Inv-loop μ-loop
+enum-told c = search needs
+
+same-length : tie.Need-same-length Inv-loop μ-loop
+same-length c = long-turned (c .before .before .before .before .before) .rowsKept
+
+same-length-2 : tie.Need-same-length-2 Inv-loop μ-loop
+same-length-2 c = long-turned (c .before .before .before .before .before) .multipliersKept
+
+same-length-3 : tie.Need-same-length-3 Inv-loop μ-loop
+same-length-3 c = long-turned (c .before .before .before .before .before) .divisorsKept
+
+same-length-4 : tie.Need-same-length-4 Inv-loop μ-loop
+same-length-4 c = long-turned (c .before .before .before .before .before) .substitutionKept
+
+same-length-5 : tie.Need-same-length-5 Inv-loop μ-loop
+same-length-5 c = long-turned (c .before .before .before .before .before) .marksKept
+
+same-length-6 : tie.Need-same-length-6 Inv-loop μ-loop
+same-length-6 c = long-turned (c .before .before .before .before .before) .backKept
+
+same-length-7 : tie.Need-same-length-7 Inv-loop μ-loop
+same-length-7 c = long-turned (c .before .before .before .before .before) .reasonsKept
+
+returns : tie.Need-returns Inv-loop μ-loop
+returns c =
+    let t = c .before .before .before .before .before in
+    let a = entry t .args in
+    let l = head t .loop in
+    let g = l .inv .1 in
+    let z = t .turn .last in
+    too-far (a .n) (a .m) (l .left - 1) (l .count) (l .rows) (l .multipliers) (l .divisors) (l .substitution) (l .marks) (l .back) (l .reasons) (g .some) (z .0) (z .1 .0) (z .1 .1 .0) (told t _ (c .enum-told .given .1))
+    ∙ ahead-is g (more t)
+
+enum-known-found : tie.Need-enum-known-found Inv-loop μ-loop
+enum-known-found c = search needs
+
+magnitude-requires : tie.Need-magnitude-requires Inv-loop μ-loop
+magnitude-requires c κs =
+    let f = c .before in
+    let t = turning f in
+    let l = head t .loop in
+    let z = t .turn .last in
+    let small = lead-small (l .inv .1) (more t) (column f) (lead f) (z .0) (z .1 .0) (z .1 .1 .0) (stepped f) in
+    rw (lead-back f) (omega arith)
+
+close-requires : tie.Need-close-requires Inv-loop μ-loop
+close-requires c κs =
+    let q = c .before .before .before .before .before .before in
+    let f = q .before .before in
+    let t = turning f in
+    let l = head t .loop in
+    let g = l .inv .1 in
+    let z = t .turn .last in
+    let made = stepped f in
+    let w = made .working in
+    let r = made .results in
+    rw (lead-back f) (
+      (w .rowsLong, w .multipliersLong, g .some, r .marksLong, r .reasonsLong),
+      (
+        (r .small .1, r .small .2, column-small g (more t) (column f) (lead f) (z .0) (z .1 .0) (z .1 .1 .0) made, omega (arith, measured q, c .before .before .before .before .before .if1 .taken), w .divisorsGood),
+        (w .rowsWithin, w .multipliersWithin),
+      ),
+    )
+
+add-t38 : tie.Need-add-t38 Inv-loop μ-loop
+add-t38 c = let t = turning (found (c .before .before .before .before .before .before .before .before)) in omega (arith, head t .loop .inv .1 .budget, entry t .pre .1)
+
+same-length-8 : tie.Need-same-length-8 Inv-loop μ-loop
+same-length-8 c = long-shut (c .before .before .before .before .before .before .before .before) .rowsKept
+
+same-length-9 : tie.Need-same-length-9 Inv-loop μ-loop
+same-length-9 c = long-shut (c .before .before .before .before .before .before .before .before) .multipliersKept
+
+same-length-10 : tie.Need-same-length-10 Inv-loop μ-loop
+same-length-10 c = long-shut (c .before .before .before .before .before .before .before .before) .divisorsKept
+
+same-length-11 : tie.Need-same-length-11 Inv-loop μ-loop
+same-length-11 c = long-shut (c .before .before .before .before .before .before .before .before) .substitutionKept
+
+same-length-12 : tie.Need-same-length-12 Inv-loop μ-loop
+same-length-12 c = long-shut (c .before .before .before .before .before .before .before .before) .marksKept
+
+same-length-13 : tie.Need-same-length-13 Inv-loop μ-loop
+same-length-13 c = long-shut (c .before .before .before .before .before .before .before .before) .backKept
+
+same-length-14 : tie.Need-same-length-14 Inv-loop μ-loop
+same-length-14 c = long-shut (c .before .before .before .before .before .before .before .before) .reasonsKept
+
+returns-2 : tie.Need-returns-2 Inv-loop μ-loop
+returns-2 c =
+    let s = c .before .before .before .before .before .before .before .before in
+    let q = s .before .before .before .before .before .before .before in
+    let f = found s in
+    let t = turning f in
+    let a = entry t .args in
+    let l = head t .loop in
+    let g = l .inv .1 in
+    let z = t .turn .last in
+    let y = s .close .last in
+    shut-passes (a .n) (a .m) (l .left - 1) (l .count) (l .rows) (l .multipliers) (l .divisors) (l .substitution) (l .marks) (l .back) (l .reasons) (column f) (lead f) (z .0) (z .1 .0) (z .1 .1 .0) (stepped f)
+    (eq-eqb (natAbs (lead f)) 1 (sym (measured q) ∙ s .before .before .before .before .before .before .if1 .taken)) (y .0) (y .1 .0) (y .1 .1 .0) (y .1 .1 .1 .0) (y .1 .1 .1 .1 .0) (shut-as s _ (c .if2 .taken))
+    ∙ ahead-is g (more t)
+
+same-length-15 : tie.Need-same-length-15 Inv-loop μ-loop
+same-length-15 c = long-shut (c .before .before .before .before .before .before .before .before) .rowsKept
+
+same-length-16 : tie.Need-same-length-16 Inv-loop μ-loop
+same-length-16 c = long-shut (c .before .before .before .before .before .before .before .before) .multipliersKept
+
+same-length-17 : tie.Need-same-length-17 Inv-loop μ-loop
+same-length-17 c = long-shut (c .before .before .before .before .before .before .before .before) .divisorsKept
+
+same-length-18 : tie.Need-same-length-18 Inv-loop μ-loop
+same-length-18 c = long-shut (c .before .before .before .before .before .before .before .before) .substitutionKept
+
+same-length-19 : tie.Need-same-length-19 Inv-loop μ-loop
+same-length-19 c = long-shut (c .before .before .before .before .before .before .before .before) .marksKept
+
+same-length-20 : tie.Need-same-length-20 Inv-loop μ-loop
+same-length-20 c = long-shut (c .before .before .before .before .before .before .before .before) .backKept
+
+same-length-21 : tie.Need-same-length-21 Inv-loop μ-loop
+same-length-21 c = long-shut (c .before .before .before .before .before .before .before .before) .reasonsKept
+
+returns-3 : tie.Need-returns-3 Inv-loop μ-loop
+returns-3 c =
+    let s = c .before .before .before .before .before .before .before .before in
+    let q = s .before .before .before .before .before .before .before in
+    let f = found s in
+    let t = turning f in
+    let a = entry t .args in
+    let l = head t .loop in
+    let g = l .inv .1 in
+    let z = t .turn .last in
+    let y = s .close .last in
+    shut-large (a .n) (a .m) (l .left - 1) (l .count) (l .rows) (l .multipliers) (l .divisors) (l .substitution) (l .marks) (l .back) (l .reasons) (column f) (lead f) (z .0) (z .1 .0) (z .1 .1 .0) (stepped f)
+    (eq-eqb (natAbs (lead f)) 1 (sym (measured q) ∙ s .before .before .before .before .before .before .if1 .taken)) (y .0) (y .1 .0) (y .1 .1 .0) (y .1 .1 .1 .0) (y .1 .1 .1 .1 .0) (shut-as s _ (c .if2 .left))
+    ∙ ahead-is g (more t)
+
+add-count : tie.Need-add-count Inv-loop μ-loop
+add-count c = let t = turning (c .before .before .before) in omega (arith, head t .loop .inv .1 .budget, entry t .pre .1)
+
+sub-left : tie.Need-sub-left Inv-loop μ-loop
+sub-left c = more (c .before .before .before .before .before .before .before .before)
+
+loop-less : tie.Need-loop-less Inv-loop μ-loop
+loop-less c = let h = more (c .before .before .before .before .before .before .before .before) in omega arith
+
+loop-again : tie.Need-loop-again Inv-loop μ-loop
+loop-again c =
+    let q = c .before in
+    let f = q .before .before in
+    let t = turning f in
+    let l = head t .loop in
+    let z = t .turn .last in
+    (long-turned t, going-on (l .inv .1) (more t) (column f) (lead f) (z .0) (z .1 .0) (z .1 .1 .0) (stepped f) (ne-eqb (natAbs (lead f)) 1 (λ e. c .if1 .left (measured q ∙ e))))
+
+same-length-22 : tie.Need-same-length-22 Inv-loop μ-loop
+same-length-22 c = c .before .loop .inv .0 .rowsKept
+
+same-length-23 : tie.Need-same-length-23 Inv-loop μ-loop
+same-length-23 c = c .before .loop .inv .0 .multipliersKept
+
+same-length-24 : tie.Need-same-length-24 Inv-loop μ-loop
+same-length-24 c = c .before .loop .inv .0 .divisorsKept
+
+same-length-25 : tie.Need-same-length-25 Inv-loop μ-loop
+same-length-25 c = c .before .loop .inv .0 .substitutionKept
+
+same-length-26 : tie.Need-same-length-26 Inv-loop μ-loop
+same-length-26 c = c .before .loop .inv .0 .marksKept
+
+same-length-27 : tie.Need-same-length-27 Inv-loop μ-loop
+same-length-27 c = c .before .loop .inv .0 .backKept
+
+same-length-28 : tie.Need-same-length-28 Inv-loop μ-loop
+same-length-28 c = c .before .loop .inv .0 .reasonsKept
+
+returns-4 : tie.Need-returns-4 Inv-loop μ-loop
+returns-4 c = gone (c .before .loop .inv .1) (c .loop-test .left)
+
+pub stepping-spec : {M : Type 1} → statement M
+stepping-spec =
+    tie.close
+    (tie.spec
+    Inv-loop
+    μ-loop
+    loop-holds
+    turn-requires
+    enum-told
+    same-length
+    same-length-2
+    same-length-3
+    same-length-4
+    same-length-5
+    same-length-6
+    same-length-7
+    returns
+    enum-known-found
+    magnitude-requires
+    close-requires
+    add-t38
+    same-length-8
+    same-length-9
+    same-length-10
+    same-length-11
+    same-length-12
+    same-length-13
+    same-length-14
+    returns-2
+    same-length-15
+    same-length-16
+    same-length-17
+    same-length-18
+    same-length-19
+    same-length-20
+    same-length-21
+    returns-3
+    add-count
+    sub-left
+    loop-less
+    loop-again
+    same-length-22
+    same-length-23
+    same-length-24
+    same-length-25
+    same-length-26
+    same-length-27
+    same-length-28
+    returns-4)

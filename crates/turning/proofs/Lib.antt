@@ -1,0 +1,3 @@
+-- Laws of step (c).
+pub mod TurnedRows
+pub mod TurnedStep

@@ -1,0 +1,113 @@
+-- Step (c) on tables: the column that it chooses, and what it makes of the rows, the substitution and the way back, each put to the test.
+use mathlib.Core.Path.{_≡_, refl, sym, ap, _∙_}
+use mathlib.Core.Bool.{Bool, true, false, _&&_, and-assoc}
+use mathlib.Core.List.{List, [], _∷_, _++_, map}
+use Prim.Native.Nat.{ℕ, zero, suc, _*_, _≤_, _<_, zero-le}
+use native.Mathlib.Nat.{dvd-refl, eq-zero-of-zero-dvd}
+use native.Mathlib.Omega.{arith}
+use lib.ListN.{length, take, set, length-map}
+use lib.Seq.{getD-take, take-take}
+use lib.IntN.{ℤ, pos, natAbs}
+use Rattle.whole.specs.Limit.{W}
+use Rattle.whole.specs.Quotient.{quotient}
+use Rattle.rows.specs.Row.{at, gcdOf, smallest, quotients, allWithin}
+use Rattle.rows.specs.Table.{rowsOf, flat, Wide}
+use Rattle.rows.proofs.Algebra.{length-less}
+use Rattle.rows.proofs.Bounded.{and-right, bounded-append, bounded-take, bounded-set, bounded-quotients}
+use Rattle.rows.proofs.Divisors.{gcdOf-greatest}
+use Rattle.rows.proofs.SmallestLaws.{smallest-is}
+use Rattle.rows.proofs.TableLaws.{length-rowsOf, wide-rowsOf, rowsOf-flat}
+use Rattle.tables.proofs.Multiples.{without}
+use Rattle.rules.specs.Elimination.{Step, stepOf, putIn, wayBackRow}
+use Rattle.turning.specs.Turned.{Turned, turned, listedTurn, turnedTables}
+use Rattle.steps.specs.Shown.{tried}
+use Rattle.turning.specs.declared.Turning.the-variants.{Made, TooFar}
+use Rattle.turning.proofs.TurnedRows.{returned}
+use Rattle.steps.proofs.Attempts.{tried-fits, tried-made}
+
+-- ---- a row whose gcd is not 0 has a number that is not 0, and so is the smallest
+pub lead-nonzero : (row : List ℤ) → 0 < gcdOf row → 0 < natAbs (at row (smallest row))
+lead-nonzero row h = go (natAbs (at row (smallest row))) refl
+  where
+    none : natAbs (at row (smallest row)) ≡ 0 → (i x : ℕ) → natAbs (at row i) ≡ x → natAbs (at row i) ≡ 0
+    none e i zero f = f
+    none e i (suc x) f = absurd (omega (arith, smallest-is row .nonzero i (omega arith)))
+
+    go : (x : ℕ) → natAbs (at row (smallest row)) ≡ x → 0 < natAbs (at row (smallest row))
+    go (suc x) e = omega arith
+    go zero e =
+        let zeros = gcdOf-greatest row 0 (λ i l. record { dvd = rw (none e i (natAbs (at row i)) refl) (dvd-refl 0) }) in
+        absurd (omega (arith, eq-zero-of-zero-dvd zeros))
+
+pub column-inside : (row : List ℤ) → 0 < gcdOf row → smallest row < length row
+column-inside row h = smallest-is row .within (smallest row) (lead-nonzero row h)
+
+-- ---- the step of a table's first row
+abbrev pub picked : ℕ → ℕ → List ℤ → List ℤ
+picked n k t = set (quotients (at t k) (take (suc n) t)) k (pos 0)
+
+abbrev pub stepAt : ℕ → ℤ → List ℤ → Step
+stepAt k a q = record { column = k; lead = a; quotients = q }
+
+pub step-is : (n k : ℕ) (t : List ℤ) → k ≡ smallest (take n t) → k ≤ n → stepOf n (take (suc n) t) ≡ stepAt k (at t k) (picked n k t)
+unfolding stepOf
+step-is n k t e h = rw (take-take n (suc n) t (omega arith), ← e, getD-take (suc n) t k (pos 0) (omega arith))
+
+pub length-quotients : (a : ℤ) (row : List ℤ) → length (quotients a row) ≡ length row
+unfolding quotients
+length-quotients a row = length-map row (λ z. quotient z a)
+
+pub picked-within : (n k : ℕ) (t : List ℤ) → allWithin t ≡ true → allWithin (picked n k t) ≡ true
+picked-within n k t e =
+    let row = take (suc n) t in
+    bounded-set W (quotients (at t k) row) k (pos 0) (bounded-quotients W (at t k) row (bounded-take W (suc n) t e)) zero-le
+
+-- ---- rows less q as often as their number at column k says: as wide as they were, and so many
+wide-without : (w k : ℕ) (q : List ℤ) (rows : List (List ℤ)) → Wide w rows → Wide w (map (without k q) rows)
+wide-without w k q [] h = tt
+wide-without w k q (row ∷ rows) h = (length-less row (at row k) q ∙ h .0, wide-without w k q rows (h .1))
+
+abbrev pub putRows : ℕ → ℕ → ℕ → List ℤ → List ℤ → List (List ℤ)
+putRows n count k q t = map (without k q) (rowsOf (suc n) count t)
+
+rows-put : (n count k : ℕ) (q t : List ℤ) → length t ≡ count * suc n → rowsOf (suc n) count (flat (putRows n count k q t)) ≡ putRows n count k q t
+rows-put n count k q t e =
+    let rows = putRows n count k q t in
+    let many : length rows ≡ count = length-map (rowsOf (suc n) count t) (without k q) ∙ length-rowsOf (suc n) count t in
+    ap (λ (m : ℕ). rowsOf (suc n) m (flat rows)) (sym many)
+    ∙ rowsOf-flat (suc n) rows (wide-without (suc n) k q (rowsOf (suc n) count t) (wide-rowsOf (suc n) count t e))
+
+-- ---- the three tables t, u, v, that became t′, u′, v′, and the answers b, c, d to whether each fits
+module _ (n count k : ℕ) (a : ℤ) (q t u v t′ u′ v′ : List ℤ) (b c d : Bool) where
+  abbrev after : Turned
+  after = turned n (stepAt k a q) (rowsOf (suc n) count t) (rowsOf (suc n) n u) (rowsOf (suc n) n v)
+
+  abbrev listed : List ℤ
+  listed = listedTurn n (stepAt k a q) (rowsOf (suc n) count t) (rowsOf (suc n) n u) (rowsOf (suc n) n v)
+
+  module _
+      (first : b ≡ allWithin (flat (putRows n count k q t)))
+      (second : c ≡ allWithin (flat (putRows n n k q u)))
+      (third : tried d (rowsOf (suc n) n v′) ≡ tried (allWithin (returned n k q v)) (set (rowsOf (suc n) n v) k (returned n k q v)))
+    where
+      -- the listed numbers fit where all three do
+      verdict : (b && c) && d ≡ allWithin listed
+      unfolding putIn wayBackRow
+      verdict =
+          let x = flat (putRows n count k q t) in
+          let y = flat (putRows n n k q u) in
+          let z = returned n k q v in
+          let last : d ≡ allWithin z = tried-fits d (allWithin z) (rowsOf (suc n) n v′) (set (rowsOf (suc n) n v) k z) third in
+          rw (first, second, last, and-assoc (allWithin x) (allWithin y) (allWithin z))
+          (sym (bounded-append W x (y ++ z) ∙ ap (λ (e : Bool). allWithin x && e) (bounded-append W y z)))
+
+      pub turned-none : (b && c) && d ≡ false → turnedTables TooFar n count t′ u′ v′ ≡ tried (allWithin listed) after
+      turned-none e = ap (λ (f : Bool). tried f after) (sym e ∙ verdict)
+
+      pub turned-made : length t ≡ count * suc n → length u ≡ n * suc n → t′ ≡ flat (putRows n count k q t) → u′ ≡ flat (putRows n n k q u)
+          → (b && c) && d ≡ true → turnedTables (Made k a) n count t′ u′ v′ ≡ tried (allWithin listed) after
+      unfolding putIn wayBackRow
+      turned-made l m f g e =
+          let z = returned n k q v in
+          let back = tried-made d (allWithin z) (rowsOf (suc n) n v′) (set (rowsOf (suc n) n v) k z) (and-right (b && c) d e) third in
+          rw (f, g, rows-put n count k q t l, rows-put n n k q u m, back) (ap (λ (x : Bool). tried x after) (sym e ∙ verdict))

@@ -1,0 +1,2 @@
+-- Laws of the set used.
+pub mod Reasons
