@@ -13,6 +13,8 @@ HEADERS = (
     ("97 rows, a CR alone", b"97 4\r", b'(error "6 5")\n'),
     ("35 columns", b"96 35\n", b'(error "1")\n'),
     ("2 columns", b"0 2\n", b'(error "1")\n'),
+    ("no columns", b"1 0", b'(error "1")\n'),
+    ("no columns, then a bad byte in the header's line", b"1 0 x", b'(error "6 4")\n'),
     ("the largest counts that can be written", b"9999999999 9999999999\n", b'(error "1")\n'),
     # 4294967296 is 2^32 and 4294967299 is 3 more: counts kept in 32 bits would come out as `0 3`.
     ("counts past 32 bits", b"4294967296 4294967299\n", b'(error "1")\n'),
