@@ -1,0 +1,2 @@
+-- Laws of the exported functions.
+mod Five
