@@ -251,11 +251,13 @@ def run_texts(library, seed, counts):
 
 def compare(library, seed):
     """All calls of a seed, with the counts printed."""
+    # first of all, so that the seed is known even if a call should crash
+    print("seed %d" % seed, flush=True)
     began = time.monotonic()
     counts = {name: Counter() for name in EXPECTED_KINDS}
     run_systems(library, seed, counts)
     run_texts(library, seed, counts)
-    print("seed %d: %.0f s" % (seed, time.monotonic() - began))
+    print("  %.0f s" % (time.monotonic() - began))
     for name, expected in EXPECTED_KINDS.items():
         line = ", ".join("%s %d" % pair for pair in sorted(counts[name].items()))
         print("  plassobine_%s, %d calls: %s" % (name, sum(counts[name].values()), line))

@@ -48,29 +48,29 @@ ofReading (Unread refusal) = ofRefusal refusal
 
 -- ---- what a call leaves behind: its result, the outcome's numbers, and the lent tables
 
-pub record Left (T : Type 0) : Type 0 where
+pub record Returned (T : Type 0) : Type 0 where
   pub result : ℕ
   pub numbers : List ℕ
   pub tables : T
 
-abbrev pub left : {T : Type 0} → ℕ → List ℕ → T → Left T
-left result numbers tables = record { result = result; numbers = numbers; tables = tables }
+abbrev pub returned : {T : Type 0} → ℕ → List ℕ → T → Returned T
+returned result numbers tables = record { result = result; numbers = numbers; tables = tables }
 
 -- 1 and all of the answer, or 0 and everything as it came, where there is no room for just five numbers
-abbrev pub inFive : {T : Type 0} → List ℕ → T → List ℕ → T → Left T
-inFive numbers tables given before = cond (eqb (length given) 5) (left 1 numbers tables) (left 0 given before)
+abbrev pub inFive : {T : Type 0} → List ℕ → T → List ℕ → T → Returned T
+inFive numbers tables given before = cond (eqb (length given) 5) (returned 1 numbers tables) (returned 0 given before)
 
-unfoldable pub solved : ℕ → ℕ → ℕ → List ℤ → List ℤ → Results → List ℕ → Left Results
+unfoldable pub solved : ℕ → ℕ → ℕ → List ℤ → List ℤ → Results → List ℕ → Returned Results
 unfolding solve ofOutcome
 solved n m k equations inequalities given outcome =
     let a = solve n m k equations inequalities given in inFive (ofOutcome (a .outcome)) (a .results) outcome given
 
 -- the checker has no tables but the outcome's
-unfoldable pub checked : ℕ → ℕ → List ℤ → List ℤ → List ℕ → Left (Unit {0})
+unfoldable pub checked : ℕ → ℕ → List ℤ → List ℤ → List ℕ → Returned (Unit {0})
 unfolding check ofVerdict
 checked n m equations multipliers outcome = inFive (ofVerdict (check n m equations multipliers)) tt outcome tt
 
-unfoldable pub readInto : List ℕ → List ℤ → List ℤ → List ℕ → Left (List ℤ × List ℤ)
+unfoldable pub readInto : List ℕ → List ℤ → List ℤ → List ℕ → Returned (List ℤ × List ℤ)
 unfolding read ofReading
 readInto text equations inequalities outcome =
     let r = read text equations inequalities in

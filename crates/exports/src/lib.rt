@@ -2,7 +2,7 @@
 // Each function answers 1, or 0 where the array for the outcome does not hold five numbers: then nothing is written.
 ghost use mathlib.Core.Path.{_≡_};
 ghost use Rattle.solver.specs.Answered.{tables as tablesOf};
-ghost use Rattle.exports.specs.Numbered.{left, solved, checked, readInto};
+ghost use Rattle.exports.specs.Numbered.{returned, solved, checked, readInto};
 
 mod numbers;
 
@@ -22,7 +22,7 @@ pub extern "C" fn plassobine_solve(
     used: &mut [u64],
     outcome: &mut [u64],
 ) -> u32
-    ensures { λ r. ⌜ left r (now (outcome .exit)) (tablesOf (now (substitution .exit)) (now (marks .exit)) (now (back .exit)) (now (reasons .exit)) (now (conflict .exit)) (now (tightened .exit)) (now (used .exit))) ≡ solved n m k (now (equations .entry)) (now (inequalities .entry)) (tablesOf (now (substitution .entry)) (now (marks .entry)) (now (back .entry)) (now (reasons .entry)) (now (conflict .entry)) (now (tightened .entry)) (now (used .entry))) (now (outcome .entry)) ⌝ }
+    ensures { λ r. ⌜ returned r (now (outcome .exit)) (tablesOf (now (substitution .exit)) (now (marks .exit)) (now (back .exit)) (now (reasons .exit)) (now (conflict .exit)) (now (tightened .exit)) (now (used .exit))) ≡ solved n m k (now (equations .entry)) (now (inequalities .entry)) (tablesOf (now (substitution .entry)) (now (marks .entry)) (now (back .entry)) (now (reasons .entry)) (now (conflict .entry)) (now (tightened .entry)) (now (used .entry))) (now (outcome .entry)) ⌝ }
 {
     if outcome.len() != 5 {
         return 0;
@@ -53,7 +53,7 @@ pub extern "C" fn plassobine_check(
     multipliers: &[i64],
     outcome: &mut [u64],
 ) -> u32
-    ensures { λ r. ⌜ left r (now (outcome .exit)) tt ≡ checked n m (now (equations .entry)) (now (multipliers .entry)) (now (outcome .entry)) ⌝ }
+    ensures { λ r. ⌜ returned r (now (outcome .exit)) tt ≡ checked n m (now (equations .entry)) (now (multipliers .entry)) (now (outcome .entry)) ⌝ }
 {
     if outcome.len() != 5 {
         return 0;
@@ -70,7 +70,7 @@ pub extern "C" fn plassobine_read(
     inequalities: &mut [i64],
     outcome: &mut [u64],
 ) -> u32
-    ensures { λ r. ⌜ left r (now (outcome .exit)) (now (equations .exit), now (inequalities .exit)) ≡ readInto (now (text .entry)) (now (equations .entry)) (now (inequalities .entry)) (now (outcome .entry)) ⌝ }
+    ensures { λ r. ⌜ returned r (now (outcome .exit)) (now (equations .exit), now (inequalities .exit)) ≡ readInto (now (text .entry)) (now (equations .entry)) (now (inequalities .entry)) (now (outcome .entry)) ⌝ }
 {
     if outcome.len() != 5 {
         return 0;

@@ -48,9 +48,11 @@ returns-2 c =
     let l = s .before .before .before .before .before .before .before .before in
     let a = l .before .before .before .before .args in
     let t = s .solve .last .1 .1 .1 .1 .1 in
+    let held = answer (s .solve .result) (t .0) (t .1 .0) (t .1 .1 .0) (t .1 .1 .1 .0) (t .1 .1 .1 .1 .0) (t .1 .1 .1 .1 .1 .0) (t .1 .1 .1 .1 .1 .1 .0) in
     let given = tables (a .substitution .now) (a .marks .now) (a .back .now) (a .reasons .now) (a .conflict .now) (a .tightened .now) (a .used .now) in
-    with-room (λ (x : Answer). ofOutcome (x .outcome)) (λ (x : Answer). x .results) (answer (s .solve .result) (t .0) (t .1 .0) (t .1 .1 .0) (t .1 .1 .1 .0) (t .1 .1 .1 .1 .0) (t .1 .1 .1 .1 .1 .0) (t .1 .1 .1 .1 .1 .1 .0))
-    (solve (a .n) (a .m) (a .k) (a .equations .now) (a .inequalities .now) given) _ (a .outcome .now) given (l .if1 .left) (s .solve .ensures) (c .before .before .put-outcome .ensures)
+    let goal = solve (a .n) (a .m) (a .k) (a .equations .now) (a .inequalities .now) given in
+    with-room (λ (x : Answer). ofOutcome (x .outcome)) (λ (x : Answer). x .results) held goal _ (a .outcome .now) given
+    (l .if1 .left) (s .solve .ensures) (c .before .before .put-outcome .ensures)
 
 pub plassobine-solve-spec : {M : Type 1} → statement M
 plassobine-solve-spec =
