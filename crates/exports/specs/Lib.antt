@@ -1,0 +1,2 @@
+-- What the exported functions answer in numbers.
+pub mod Numbered
