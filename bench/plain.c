@@ -73,11 +73,11 @@ static void start(struct run *run, const struct lent *lent)
     memset(lent->conflict, 0, (m + 1) * sizeof(int64_t));
 }
 
-static void equation_conflict(const struct lent *lent, const struct run *run, size_t row, uint64_t g)
+static void equation_conflict(const struct lent *lent, const struct run *run, size_t row, uint32_t g)
 {
     clear(lent);
     memcpy(lent->conflict, run->multipliers + row * run->m, run->m * sizeof(int64_t));
-    lent->conflict[run->m] = run->divisors[row] * (int64_t)g;
+    lent->conflict[run->m] = run->divisors[row] * g;
     lent->outcome[0] = EQUATION_CONFLICT;
     lent->outcome[1] = row + 1;
     lent->outcome[2] = run->steps;
@@ -87,7 +87,7 @@ static void solve(const struct lent *lent)
 {
     struct run run;
     size_t row;
-    uint64_t g;
+    uint32_t g;
     start(&run, lent);
     switch (eliminate(&run, &row, &g)) {
     case CONFLICT:

@@ -45,13 +45,13 @@ static uint64_t drop_closed(const struct run *run, const uint64_t *sets, int64_t
 
 static void tighten(int64_t *row, size_t n)
 {
-    int64_t g = (int64_t)gcd_with(0, row, n);
-    if (g < 2 || row[n] % g == 0)
+    int32_t g = (int32_t)gcd_with(0, row, n);
+    if (g < 2 || (int32_t)row[n] % g == 0)
         return;
     for (size_t i = 0; i < n; i++)
-        row[i] /= g;
+        row[i] = (int32_t)row[i] / g;
     /* C truncates toward zero, so that only a positive quotient has to go up by one. */
-    row[n] = row[n] / g + (row[n] > 0);
+    row[n] = (int32_t)row[n] / g + (row[n] > 0);
 }
 
 size_t work_inequalities(const struct run *run, size_t k, const int64_t *inequalities, int64_t *tightened,

@@ -33,15 +33,16 @@ static inline bool outside(int64_t number)
     return (uint64_t)(number + LIMIT) > (uint64_t)(2 * LIMIT);
 }
 
-static inline uint64_t magnitude(int64_t number)
+/* Only numbers that may stand are asked for; they are short, and short numbers divide faster. */
+static inline uint32_t magnitude(int64_t number)
 {
-    return number < 0 ? (uint64_t)-number : (uint64_t)number;
+    return (uint32_t)(number < 0 ? -number : number);
 }
 
-static inline uint64_t gcd(uint64_t a, uint64_t b)
+static inline uint32_t gcd(uint32_t a, uint32_t b)
 {
     while (b != 0) {
-        uint64_t rest = a % b;
+        uint32_t rest = a % b;
         a = b;
         b = rest;
     }
@@ -49,7 +50,7 @@ static inline uint64_t gcd(uint64_t a, uint64_t b)
 }
 
 /* The gcd of g and the numbers; a 1 can only stay 1, so it ends the loop. */
-static inline uint64_t gcd_with(uint64_t g, const int64_t *numbers, size_t count)
+static inline uint32_t gcd_with(uint32_t g, const int64_t *numbers, size_t count)
 {
     for (size_t i = 0; i < count && g != 1; i++)
         if (numbers[i] != 0)
@@ -57,8 +58,8 @@ static inline uint64_t gcd_with(uint64_t g, const int64_t *numbers, size_t count
     return g;
 }
 
-/* All rows in order. The row at which the work ended is left in *row, counted from 0, and for a conflict its g in *g. */
-enum ended eliminate(struct run *run, size_t *row, uint64_t *g);
+/* All rows in order. Leaves the row at which the work ended in *row, counted from 0, and a conflict's g in *g. */
+enum ended eliminate(struct run *run, size_t *row, uint32_t *g);
 
 /* All inequalities. Gives k, or the first whose sums grow past W, counted from 0. */
 size_t work_inequalities(const struct run *run, size_t k, const int64_t *inequalities, int64_t *tightened,

@@ -11,10 +11,10 @@ static bool any_outside(const int64_t *numbers, size_t count)
     return found;
 }
 
-static void divide_all(int64_t *numbers, size_t count, int64_t by)
+static void divide_all(int64_t *numbers, size_t count, int32_t by)
 {
     for (size_t i = 0; i < count; i++)
-        numbers[i] /= by;
+        numbers[i] = (int32_t)numbers[i] / by;
 }
 
 /* Multipliers and divisor divided by all they share. They are listed before that, and only get smaller by it. */
@@ -23,7 +23,7 @@ static bool lowest_terms(struct run *run, size_t row)
     int64_t *multipliers = run->multipliers + row * run->m;
     if (outside(run->divisors[row]) || any_outside(multipliers, run->m))
         return false;
-    int64_t shared = (int64_t)gcd_with((uint64_t)run->divisors[row], multipliers, run->m);
+    int32_t shared = (int32_t)gcd_with((uint32_t)run->divisors[row], multipliers, run->m);
     if (shared != 1) {
         divide_all(multipliers, run->m, shared);
         run->divisors[row] /= shared;
@@ -32,7 +32,7 @@ static bool lowest_terms(struct run *run, size_t row)
 }
 
 /* Part (a) for a row whose gcd is g >= 2. */
-static bool divide_row(struct run *run, size_t row, int64_t g)
+static bool divide_row(struct run *run, size_t row, int32_t g)
 {
     divide_all(run->rows + row * run->width, run->width, g);
     run->divisors[row] *= g;
@@ -42,10 +42,10 @@ static bool divide_row(struct run *run, size_t row, int64_t g)
 static size_t smallest_column(const int64_t *row, size_t n)
 {
     size_t column = 0;
-    uint64_t smallest = UINT64_MAX;
+    uint32_t smallest = UINT32_MAX;
     for (size_t i = 0; i < n; i++) {
         /* Less one, a zero becomes the largest number of all, so that it is never taken. */
-        uint64_t size = magnitude(row[i]) - 1;
+        uint32_t size = magnitude(row[i]) - 1;
         if (size < smallest) {
             smallest = size;
             column = i;
@@ -78,7 +78,7 @@ static void find_quotients(const int64_t *restrict row, size_t width, size_t col
             quotients[i] = a * row[i];
     else
         for (size_t i = 0; i < width; i++)
-            quotients[i] = row[i] / a;
+            quotients[i] = (int32_t)row[i] / (int32_t)a;
     quotients[column] = 0;
 }
 
@@ -117,7 +117,7 @@ static bool correct_later_row(struct run *run, size_t h, size_t column, const in
     int64_t *restrict multipliers = run->multipliers + h * run->m;
     int64_t *place = run->rows + h * run->width + column;
     int64_t d = reason[run->m];
-    int64_t e = (int64_t)gcd((uint64_t)run->divisors[h], (uint64_t)d);
+    int64_t e = (int64_t)gcd((uint32_t)run->divisors[h], (uint32_t)d);
     int64_t f = *place * (run->divisors[h] / e);
     if (outside(f))
         return false;
@@ -144,14 +144,14 @@ static bool close_column(struct run *run, size_t row, size_t column)
     return true;
 }
 
-static enum ended work_row(struct run *run, size_t row, uint64_t *g)
+static enum ended work_row(struct run *run, size_t row, uint32_t *g)
 {
     int64_t *numbers = run->rows + row * run->width;
-    uint64_t of_coefficients = gcd_with(0, numbers, run->n);
-    uint64_t of_all = gcd_with(of_coefficients, numbers + run->n, 1);
+    uint32_t of_coefficients = gcd_with(0, numbers, run->n);
+    uint32_t of_all = gcd_with(of_coefficients, numbers + run->n, 1);
     if (of_all == 0)
         return DONE;
-    if (of_all >= 2 && !divide_row(run, row, (int64_t)of_all))
+    if (of_all >= 2 && !divide_row(run, row, (int32_t)of_all))
         return TOO_LARGE;
     *g = of_coefficients / of_all;
     if (*g != 1)
@@ -165,7 +165,7 @@ static enum ended work_row(struct run *run, size_t row, uint64_t *g)
     return DONE;
 }
 
-enum ended eliminate(struct run *run, size_t *row, uint64_t *g)
+enum ended eliminate(struct run *run, size_t *row, uint32_t *g)
 {
     for (*row = 0; *row < run->m; ++*row) {
         enum ended ended = work_row(run, *row, g);
