@@ -14,7 +14,7 @@ use Rattle.matrix.specs.Poured.{poured}
 use Rattle.matrix.specs.Reader.{scan, numbersOf, reply, filled, read}
 use Rattle.matrix.specs.declared.Reading.{Reading}
 use Rattle.matrix.specs.declared.Reading.the-variants.{System, Unread}
-use Rattle.reader.specs.Sound.{isSystem}
+use Rattle.reader.specs.Answers.{isSystem}
 
 -- what only `true` has
 abbrev Truth : Bool → Type 0

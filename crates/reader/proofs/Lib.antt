@@ -1,5 +1,3 @@
--- Laws of the two passes over a text.
-mod Scanned
-mod Kept
+-- Laws of the second pass over a text, and of what is answered.
 mod Entered
 pub mod Answered

@@ -1,2 +1,2 @@
--- What the reader's functions keep in bounds.
-pub mod Sound
+-- What the reader's functions tell apart.
+pub mod Answers

@@ -7,10 +7,10 @@ ghost use lib.ListN.{length, getD};
 ghost use Rattle.matrix.specs.Bytes.{lineFeed};
 ghost use Rattle.matrix.specs.Poured.{poured, page, put};
 ghost use Rattle.matrix.specs.Reader.{isDigits, entryOf, ends as endsOf, numbersOf};
-use crate::scan::begin;
 use machine::step;
 use matrix::Machine;
 use matrix::Phase;
+use scanning::begin;
 
 fn is_digits(m: Machine) -> bool
     ensures { λ r. ⌜ r ≡ isDigits (m .phase) ⌝ }

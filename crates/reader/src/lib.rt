@@ -5,10 +5,9 @@ ghost use lib.ListN.{length};
 ghost use Rattle.rows.specs.Row.{zeros};
 ghost use Rattle.matrix.specs.Machine.{begin};
 ghost use Rattle.matrix.specs.Reader.{scan as scanOf, filled, reply, read as readOf};
-ghost use Rattle.reader.specs.Sound.{isSystem};
+ghost use Rattle.reader.specs.Answers.{isSystem};
 
 mod entries;
-mod scan;
 
 use matrix::Reading;
 use rules::Refusal;
@@ -27,7 +26,7 @@ fn read_short(text: &[u8], equations: &mut [i64], inequalities: &mut [i64]) -> R
     requires { ⌜ (length (now text) ≤ 65536) × (now equations ≡ zeros 1056) × (now inequalities ≡ zeros 2112) ⌝ }
     ensures { λ r. ⌜ reply r (now (equations .exit)) (now (inequalities .exit)) ≡ filled (scanOf begin 0 (now (text .entry))) (now (text .entry)) ⌝ }
 {
-    let reading = scan::scan(text);
+    let reading = scanning::scan(text);
     if is_system(reading) {
         entries::fill_rows(text, equations, false);
         entries::fill_rows(text, inequalities, true);

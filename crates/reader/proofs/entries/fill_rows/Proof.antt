@@ -14,9 +14,9 @@ use Rattle.matrix.specs.Poured.{Page, page, put, written}
 use Rattle.matrix.specs.Reader.{entryOf, ends, numbers, numbersOf}
 use Rattle.matrix.specs.declared.Machine.{Machine}
 use Rattle.matrix.proofs.Written.{written-front}
-use Rattle.reader.specs.Sound.{Sound}
+use Rattle.machine.specs.Sound.{Sound}
 use Rattle.reader.proofs.Entered.{numbers-byte, numbers-end}
-use Rattle.reader.proofs.Kept.{begin-sound, step-sound, asked}
+use Rattle.machine.proofs.Kept.{begin-sound, step-sound, asked}
 use Rattle.reader.proofs.entries.fill_rows.Statement.{statement}
 use Rattle.reader.proofs.entries.fill_rows.Tie as tie
 

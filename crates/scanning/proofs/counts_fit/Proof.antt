@@ -1,7 +1,7 @@
--- `scan::counts_fit` meets its contract: the tests pick the case.
+-- `scanning::counts_fit` meets its contract: the tests pick the case.
 use borrow.Author.Tests.{le-leb, lt-leb}
-use Rattle.reader.proofs.scan.counts_fit.Statement.{statement}
-use Rattle.reader.proofs.scan.counts_fit.Tie as tie
+use Rattle.scanning.proofs.counts_fit.Statement.{statement}
+use Rattle.scanning.proofs.counts_fit.Tie as tie
 
 returns : tie.Need-returns
 returns c = simp (le-leb _ _ (c .before .if1 .taken), le-leb _ _ (c .if2 .taken))

@@ -1,4 +1,4 @@
--- `scan::scan` meets its contract. What is left to scan from the machine in hand is what was to be scanned at the start.
+-- `scanning::scan` meets its contract. What is left to scan from the machine in hand is what was to be scanned at the start.
 use borrow.Author.Needs.{needs}
 use mathlib.Core.Path.{_≡_, refl, sym, ap, _∙_}
 use mathlib.Core.List.{List}
@@ -8,11 +8,11 @@ use lib.ListN.{length, drop}
 use Rattle.matrix.specs.Machine.{begin, step}
 use Rattle.matrix.specs.Reader.{scan}
 use Rattle.matrix.specs.declared.Machine.{Machine}
-use Rattle.reader.specs.Sound.{Sound}
-use Rattle.reader.proofs.Scanned.{behind, scan-byte, scan-end, behind-dead, behind-beyond, behind-on}
-use Rattle.reader.proofs.Kept.{begin-sound, step-sound, asked}
-use Rattle.reader.proofs.scan.scan.Statement.{statement}
-use Rattle.reader.proofs.scan.scan.Tie as tie
+use Rattle.machine.specs.Sound.{Sound}
+use Rattle.scanning.proofs.Scanned.{behind, scan-byte, scan-end, behind-dead, behind-beyond, behind-on}
+use Rattle.machine.proofs.Kept.{begin-sound, step-sound, asked}
+use Rattle.scanning.proofs.scan.Statement.{statement}
+use Rattle.scanning.proofs.scan.Tie as tie
 
 abbrev Inv-loop : tie.InvT-loop
 Inv-loop text m₀ place₀ m place = (scan m place (drop place text) ≡ scan begin 0 text) × Sound m place × (place ≤ length text)

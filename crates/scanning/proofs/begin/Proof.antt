@@ -1,8 +1,8 @@
--- `scan::begin` meets its contract.
+-- `scanning::begin` meets its contract.
 use mathlib.Core.Path.{refl}
 use Rattle.matrix.specs.Machine.{begin}
-use Rattle.reader.proofs.scan.begin.Statement.{statement}
-use Rattle.reader.proofs.scan.begin.Tie as tie
+use Rattle.scanning.proofs.begin.Statement.{statement}
+use Rattle.scanning.proofs.begin.Tie as tie
 
 returns : tie.Need-returns
 unfolding begin

@@ -1,10 +1,10 @@
--- `scan::at_end` meets its contract: the test picks the case.
+-- `scanning::at_end` meets its contract: the test picks the case.
 use mathlib.Core.Path.{sym, _∙_}
-use Rattle.reader.proofs.Scanned.{at-end-is}
-use Rattle.reader.proofs.Kept.{asked}
+use Rattle.scanning.proofs.Scanned.{at-end-is}
+use Rattle.machine.proofs.Kept.{asked}
 use borrow.Author.Needs.{needs}
-use Rattle.reader.proofs.scan.at_end.Statement.{statement}
-use Rattle.reader.proofs.scan.at_end.Tie as tie
+use Rattle.scanning.proofs.at_end.Statement.{statement}
+use Rattle.scanning.proofs.at_end.Tie as tie
 
 is-return-requires : tie.Need-is-return-requires
 is-return-requires c κs = search needs

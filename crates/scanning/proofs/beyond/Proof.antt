@@ -1,9 +1,9 @@
--- `scan::beyond` meets its contract: the tests pick the case.
+-- `scanning::beyond` meets its contract: the tests pick the case.
 use mathlib.Core.Path.{sym, _∙_}
 use Rattle.matrix.specs.Reader.{beyond}
 use borrow.Author.Needs.{needs}
-use Rattle.reader.proofs.scan.beyond.Statement.{statement}
-use Rattle.reader.proofs.scan.beyond.Tie as tie
+use Rattle.scanning.proofs.beyond.Statement.{statement}
+use Rattle.scanning.proofs.beyond.Tie as tie
 
 is-start-requires : tie.Need-is-start-requires
 is-start-requires c κs = search needs

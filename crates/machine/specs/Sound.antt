@@ -1,16 +1,9 @@
 -- What a machine holds after so many bytes, in bounds: no count passes the bytes read, and a number has ten digits at most.
 use Prim.Native.Nat.{ℕ, _≤_, _<_, _^_}
-use mathlib.Core.Bool.{Bool, true, false}
 use Rattle.matrix.specs.declared.Machine.{Machine}
-use Rattle.matrix.specs.declared.Reading.{Reading}
-use Rattle.matrix.specs.declared.Reading.the-variants.{System, Unread}
 
 pub record Sound (m : Machine) (place : ℕ) : Type 0 where
   pub value : m .value < 10 ^ m .digits
   pub digits : m .digits ≤ 10
   pub equations : m .equations ≤ place
   pub inequalities : m .inequalities ≤ place
-
-abbrev pub isSystem : Reading → Bool
-isSystem (System n m k) = true
-isSystem (Unread refusal) = false

@@ -4,7 +4,7 @@ ghost use Prim.Native.Nat.{_-_, _≤_};
 ghost use lib.ListN.{length};
 ghost use Rattle.matrix.specs.Machine.{begin as beginOf};
 ghost use Rattle.matrix.specs.Reader.{isStart, isReturn, isDead, countsFit, beyond as beyondOf, counted as countedOf, closed as closedOf, atEnd, scan as scanOf};
-ghost use Rattle.reader.specs.Sound.{Sound};
+ghost use Rattle.machine.specs.Sound.{Sound};
 use machine::step;
 use matrix::Machine;
 use matrix::Phase;

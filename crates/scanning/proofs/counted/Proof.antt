@@ -1,9 +1,9 @@
--- `scan::counted` meets its contract: the tests pick the case.
+-- `scanning::counted` meets its contract: the tests pick the case.
 use borrow.Author.Tests.{le-leb, lt-leb}
 use Rattle.matrix.specs.Reader.{counted}
 use borrow.Author.Needs.{needs}
-use Rattle.reader.proofs.scan.counted.Statement.{statement}
-use Rattle.reader.proofs.scan.counted.Tie as tie
+use Rattle.scanning.proofs.counted.Statement.{statement}
+use Rattle.scanning.proofs.counted.Tie as tie
 
 variables-requires : tie.Need-variables-requires
 variables-requires c κs = search needs

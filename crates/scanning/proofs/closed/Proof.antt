@@ -1,10 +1,10 @@
--- `scan::closed` meets its contract: the tests pick the case.
+-- `scanning::closed` meets its contract: the tests pick the case.
 use mathlib.Core.Path.{sym, _∙_}
 use borrow.Author.Tests.{eq-eqb, ne-eqb}
-use Rattle.reader.proofs.Scanned.{closed-is}
+use Rattle.scanning.proofs.Scanned.{closed-is}
 use borrow.Author.Needs.{needs}
-use Rattle.reader.proofs.scan.closed.Statement.{statement}
-use Rattle.reader.proofs.scan.closed.Tie as tie
+use Rattle.scanning.proofs.closed.Statement.{statement}
+use Rattle.scanning.proofs.closed.Tie as tie
 
 is-dead-requires : tie.Need-is-dead-requires
 is-dead-requires c κs = search needs

@@ -1,0 +1,2 @@
+-- A byte keeps the machine in bounds, for the crates above.
+pub mod Kept

@@ -1,0 +1,2 @@
+-- What the functions above keep in bounds.
+pub mod Sound

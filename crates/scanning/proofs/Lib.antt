@@ -1,0 +1,2 @@
+-- Laws of the first pass over a text.
+mod Scanned
