@@ -1,2 +1,3 @@
 -- Laws of the set used.
 pub mod Reasons
+mod Carried

@@ -1,17 +1,14 @@
 -- Whether a row rests on an equation, from a column on, and the sets of equations that are built from such answers.
-use mathlib.Core.Path.{_≡_, refl, ap, _∙_}
-use mathlib.Core.Bool.{Bool, true, false, not, _&&_, _||_, cond, and-false}
-use mathlib.Core.Logic.{_⊎_, inl, inr}
+use mathlib.Core.Path.{_≡_, refl, ap}
+use mathlib.Core.Bool.{Bool, true, false, not, _&&_, _||_, cond}
 use mathlib.Core.List.{List, map}
 use Prim.Native.Nat.{ℕ, zero, suc, _+_, _*_, _-_, _^_, _≤_, _<_}
 use native.Mathlib.Nat.{pow-le-pow-right, two-pow-succ}
 use native.Mathlib.Omega.{arith}
-use borrow.Author.Tests.{eq-eqb, ne-eqb}
 use lib.Dec.{eqb}
 use lib.ListN.{length, getD, drop, drop-of-length-le}
 use lib.Seq.{getD-take, getD-drop}
 use lib.IntN.{ℤ, pos, natAbs}
-use Rattle.whole.proofs.Integers.{natAbs-zero}
 use Rattle.rows.specs.Row.{at}
 use Rattle.rows.specs.Table.{rowsOf}
 use Rattle.rows.proofs.Lists.{tail-at}
@@ -31,13 +28,12 @@ module _ (w j : ℕ) (marks : List ℕ) (reasons sums : List ℤ) where
   unfolding restsOn
   rests-none p h = rw (drop-of-length-le marks h)
 
-  -- column p decides, where it is closed, has a sum that is not 0, and has equation j in its reason: and leaves it to the others, where
-  -- one of the three fails
+  -- column p decides, where it is closed, has a sum that is not 0, and has equation j in its reason
   module _ (p : ℕ) (h : p < length marks) (k : p < length sums) (l : j < w) where
     abbrev here : Bool
     here = eqb (getD marks p 0) 0 && (not (eqb (natAbs (at sums p)) 0) && not (eqb (natAbs (at reasons (p * w + j))) 0))
 
-    rests-more : restsFrom p ≡ here || restsFrom (p + 1)
+    pub rests-more : restsFrom p ≡ here || restsFrom (p + 1)
     unfolding restsOn
     rests-more =
         rw (
@@ -47,18 +43,6 @@ module _ (w j : ℕ) (marks : List ℕ) (reasons sums : List ℤ) where
           getD-take w (drop (p * w) reasons) j (pos 0) l,
           getD-drop (p * w) reasons j (pos 0),
         )
-
-    pub rests-here : getD marks p 0 ≡ 0 → (at sums p ≡ pos 0 → ⊥) → (at reasons (p * w + j) ≡ pos 0 → ⊥) → restsFrom p ≡ true
-    rests-here e f g =
-        let b = natAbs (at reasons (p * w + j)) in
-        rests-more
-        ∙ rw (eq-eqb (getD marks p 0) 0 e, ne-eqb (natAbs (at sums p)) 0 (λ z. f (natAbs-zero _ z)), ne-eqb b 0 (λ z. g (natAbs-zero _ z)))
-
-    pub rests-later : (getD marks p 0 ≡ 0 → ⊥) ⊎ ((at sums p ≡ pos 0) ⊎ (at reasons (p * w + j) ≡ pos 0)) → restsFrom p ≡ restsFrom (p + 1)
-    rests-later (inl n) = rests-more ∙ rw (ne-eqb (getD marks p 0) 0 n)
-    rests-later (inr (inl e)) = rests-more ∙ rw (e, and-false (eqb (getD marks p 0) 0))
-    rests-later (inr (inr e)) =
-        rests-more ∙ rw (e, and-false (not (eqb (natAbs (at sums p)) 0)), and-false (eqb (getD marks p 0) 0))
 
 -- ---- the equations from j on, c of them, as a set
 module _ (f : ℕ → Bool) where
