@@ -1,6 +1,6 @@
 """Writes the benchmark's systems into a file, from a fixed seed: python3 make_systems.py FILE.
 
-The file is a row of 64-bit numbers: how many sets; for each set its name (32 bytes) and how many systems; for each
+The file is a row of 64-bit numbers: how many sets; for each set its name (48 bytes) and how many systems; for each
 system n, m, k, the equation table and the inequality table. Entries are small, so that few runs grow past W: a refused
 system ends early and says little about speed. Most systems have a whole point, so that few
 runs end in a conflict of the equations.
@@ -66,7 +66,15 @@ def growing(n):
     return systems
 
 
-SETS = (
+def equations_alone(systems):
+    """The same systems without their inequalities."""
+    def alone(rng, count):
+        for n, m, _, equations, _ in systems(rng, count):
+            yield n, m, 0, equations, []
+    return alone
+
+
+WHOLE = (
     ("dependence, n 2 to 16", dependence),
     ("dense, n 8, m 4", dense_eight),
     ("sparse, n 32, m 1 to 32", sparse_wide),
@@ -75,6 +83,7 @@ SETS = (
     ("growth, n 16", growing(16)),
     ("growth, n 32", growing(32)),
 )
+SETS = WHOLE + tuple(("equations of " + name, equations_alone(systems)) for name, systems in WHOLE)
 
 
 def main(arguments):
@@ -85,8 +94,8 @@ def main(arguments):
         put([len(SETS)])
         for place, (name, systems) in enumerate(SETS):
             # Each set has its own seed, so that a change of one leaves the others as they are.
-            made = list(systems(random.Random(SEED + place), SYSTEMS))
-            out.write(name.encode("ascii").ljust(32, b"\0"))
+            made = list(systems(random.Random(SEED + place % len(WHOLE)), SYSTEMS))
+            out.write(name.encode("ascii").ljust(48, b"\0"))
             put([len(made)])
             for n, m, k, equations, inequalities in made:
                 put([n, m, k] + equations + inequalities)

@@ -62,7 +62,7 @@ struct set *read_sets(const char *path, size_t *count)
     *count = (size_t)*take(&cursor, 1);
     struct set *sets = room(*count, sizeof *sets);
     for (size_t s = 0; s < *count; s++) {
-        memcpy(sets[s].name, take(&cursor, 4), sizeof sets[s].name);
+        memcpy(sets[s].name, take(&cursor, 6), sizeof sets[s].name);
         sets[s].count = (size_t)*take(&cursor, 1);
         sets[s].systems = room(sets[s].count, sizeof(struct system));
         for (size_t i = 0; i < sets[s].count; i++)

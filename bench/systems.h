@@ -12,7 +12,7 @@ struct system {
 };
 
 struct set {
-    char name[32];
+    char name[48];
     size_t count;
     struct system *systems;
 };
