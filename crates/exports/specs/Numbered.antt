@@ -14,7 +14,7 @@ use Rattle.rules.specs.declared.Verdict.{Verdict}
 use Rattle.rules.specs.declared.Verdict.the-variants.{Yes, No, NotChecked}
 use Rattle.matrix.specs.declared.Reading.{Reading}
 use Rattle.matrix.specs.declared.Reading.the-variants.{System, Unread}
-use Rattle.matrix.specs.Reader.{Read, read}
+use Rattle.matrix.specs.Reader.{read}
 use Rattle.matrix.specs.Poured.{poured}
 
 -- a kind and its values, at the front of five numbers

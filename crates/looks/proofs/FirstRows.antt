@@ -3,7 +3,7 @@ use mathlib.Core.Path.{_≡_, refl, sym, ap, _∙_}
 use mathlib.Core.Bool.{Bool, true, false}
 use mathlib.Core.List.{List, [], _∷_, map}
 use Prim.Native.Nat.{ℕ, zero, suc, _+_, _-_, _*_, _≤_, _<_, zero-le}
-use native.Mathlib.Nat.{add-sub-cancel-left, mul-comm, mul-sub}
+use native.Mathlib.Nat.{mul-comm, mul-sub}
 use native.Mathlib.Numerals.{add-one}
 use native.Mathlib.Omega.{arith}
 use borrow.Author.Tests.{eq-eqb, ne-eqb}
@@ -14,7 +14,7 @@ use lib.IntN.{ℤ}
 use Rattle.whole.specs.Limit.{W}
 use Rattle.rows.specs.Row.{allWithin}
 use Rattle.rows.specs.Table.{rowsOf, rowAt}
-use Rattle.rows.proofs.Lists.{row-end, row-next}
+use Rattle.rows.proofs.Lists.{row-next}
 use Rattle.rows.proofs.Bounded.{bounded-drop}
 use Rattle.rows.proofs.TableLaws.{length-rowsOf}
 use Rattle.tables.proofs.Rowed.{rowsFrom, rows-start, rows-more}
@@ -41,13 +41,6 @@ past-le (suc k) h = omega arith
 pub rows-none : (w count i : ℕ) (t : List ℤ) → count ≤ i → rowsFrom w count i t ≡ []
 unfolding rowsOf
 rows-none w count i t h = let none : count - i ≡ 0 = omega arith in rw none
-
--- ---- row i of a table with rows of n + 1 numbers, as the code lends it: it lies within the table
-pub row-fits : (n count i : ℕ) (t : List ℤ) → i < count → length t ≡ count * suc n → i * (n + 1) + (n + 1) ≤ length t
-row-fits n count i t h e = rw (add-one n) (omega (arith, row-end count (suc n) i h))
-
-pub row-lent : (n i : ℕ) (t : List ℤ) → take (i * (n + 1) + (n + 1) - i * (n + 1)) (drop (i * (n + 1)) t) ≡ rowAt (suc n) i t
-row-lent n i t = rw (add-sub-cancel-left (i * (n + 1)) (n + 1), add-one n)
 
 -- the rows behind it: they are lent as what is left of the table
 module _ (n count i : ℕ) (t : List ℤ) where

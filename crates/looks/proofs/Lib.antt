@@ -1,4 +1,3 @@
 -- Laws of the first row that has a property, and of the two looks.
-pub mod Zeros
 pub mod FirstRows
 pub mod Conflicts

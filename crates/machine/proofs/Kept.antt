@@ -14,7 +14,7 @@ use Rattle.matrix.specs.declared.Class.the-variants.{Digit, Minus, Blank, Carri
 use Rattle.matrix.specs.declared.Phase.{Phase}
 use Rattle.matrix.specs.declared.Phase.the-variants.{Start, Lead, Marked, Signed, Digits, Gap, Return, Comment, Dead}
 use Rattle.matrix.specs.declared.Machine.{Machine}
-use Rattle.matrix.proofs.Classes.{digit-below}
+use Rattle.matrix.proofs.ByteKinds.{digit-below}
 use Rattle.machine.specs.Sound.{Sound}
 
 pub begin-sound : Sound begin 0

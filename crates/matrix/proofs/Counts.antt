@@ -1,6 +1,6 @@
 -- A system that the reader answers has counts within the limits.
 use mathlib.Core.Bool.{Bool, true, false, cond, not, _&&_}
-use mathlib.Core.Path.{_≡_, refl, sym, ap, _∙_, subst}
+use mathlib.Core.Path.{_≡_, refl, sym, ap, _∙_}
 use mathlib.Core.List.{List, [], _∷_}
 use Prim.Native.Nat.{ℕ, suc, _-_, _≤_}
 use native.Mathlib.Omega.{arith}
@@ -8,7 +8,8 @@ use lib.Dec.{eqb, leb}
 use lib.IntN.{ℤ}
 use lib.ListN.{length}
 use borrow.Author.Tests.{leb-true}
-use Rattle.rules.specs.declared.Refusal.the-variants.{OutOfRange, Malformed}
+use Rattle.rows.proofs.Bounded.{and-left, and-right}
+use Rattle.rules.specs.declared.Refusal.the-variants.{OutOfRange}
 use Rattle.matrix.specs.Bytes.{lineFeed}
 use Rattle.matrix.specs.Machine.{begin, step, onClass, onLineFeed, lineEnds, inPhase}
 use Rattle.matrix.specs.Reader.{isStart, isReturn, isDead, countsFit, beyond, counted, closed, atEnd, scan, Read, filled, read}
@@ -27,26 +28,17 @@ pick : (t : Bool) (a b : Reading) → (t ≡ true → Counted a) → (t ≡ fals
 pick true a b f g = f refl
 pick false a b f g = g refl
 
-both-l : (a b : Bool) → a && b ≡ true → a ≡ true
-both-l true b h = refl
-both-l false b h = h
-
-both-r : (a b : Bool) → a && b ≡ true → b ≡ true
-both-r true b h = h
-both-r false true h = refl
-both-r false false h = h
-
 counted-counted : (m : Machine) → countsFit (m .rows) (m .columns) ≡ true → Counted (counted m)
 unfolding counted
 counted-counted m h =
-    let columns = both-r (leb (m .rows) 96) (leb 3 (m .columns) && leb (m .columns) 34) h in
-    let low = leb-true 3 (m .columns) (both-l (leb 3 (m .columns)) (leb (m .columns) 34) columns) in
-    let high = leb-true (m .columns) 34 (both-r (leb 3 (m .columns)) (leb (m .columns) 34) columns) in
+    let columns = and-right (leb (m .rows) 96) (leb 3 (m .columns) && leb (m .columns) 34) h in
+    let low = leb-true 3 (m .columns) (and-left (leb 3 (m .columns)) (leb (m .columns) 34) columns) in
+    let high = leb-true (m .columns) 34 (and-right (leb 3 (m .columns)) (leb (m .columns) 34) columns) in
     pick
     (leb (m .equations) 32 && leb (m .inequalities) 64)
     (System (m .columns - 2) (m .equations) (m .inequalities))
     (Unread OutOfRange)
-    (λ t. (omega (arith, low), omega (arith, high), leb-true (m .equations) 32 (both-l (leb (m .equations) 32) (leb (m .inequalities) 64) t), leb-true (m .inequalities) 64 (both-r (leb (m .equations) 32) (leb (m .inequalities) 64) t)))
+    (λ t. (omega (arith, low), omega (arith, high), leb-true (m .equations) 32 (and-left (leb (m .equations) 32) (leb (m .inequalities) 64) t), leb-true (m .inequalities) 64 (and-right (leb (m .equations) 32) (leb (m .inequalities) 64) t)))
     (λ _. tt)
 
 -- once the header is read and a line has ended, counts that are not beyond fit
@@ -62,7 +54,7 @@ closed-counted m place start =
     pick (isDead (m .phase)) _ _ (λ _. tt)
     (λ alive. pick (isStart (m .phase) && (m .body && not (countsFit (m .rows) (m .columns)))) _ _ (λ _. tt)
     (λ inside. pick (m .body && eqb (m .rows) 0) _ _
-    (λ whole. counted-counted m (fits (isStart (m .phase)) (m .body) _ (start alive) inside (both-l (m .body) (eqb (m .rows) 0) whole)))
+    (λ whole. counted-counted m (fits (isStart (m .phase)) (m .body) _ (start alive) inside (and-left (m .body) (eqb (m .rows) 0) whole)))
     (λ _. tt)))
 
 -- a line feed ends a line, or there is no such text

@@ -1,10 +1,10 @@
 -- Writes one behind another: they join, and from the front on they are `poured`.
 use mathlib.Core.Path.{_≡_, refl, sym, ap, _∙_}
 use mathlib.Core.List.{List, [], _∷_, _++_, append-assoc}
-use Prim.Native.Nat.{ℕ, _+_, _≤_, _<_}
+use Prim.Native.Nat.{ℕ, suc, _+_, _≤_, _<_}
 use native.Mathlib.Nat.{add-zero}
 use native.Mathlib.Omega.{arith}
-use lib.ListN.{length, set, length-append, length-set}
+use lib.ListN.{length, take, set, length-append, length-set}
 use lib.Seq.{set-append-seam}
 use borrow.Author.Tests.{lt-ltb, le-ltb}
 use Rattle.matrix.specs.Poured.{poured, Page, page, put, written}
@@ -54,3 +54,18 @@ module _ {A : Type 0} where
       let room : place < length cells = omega arith in
       let later : (place + 1) + length more ≤ length (set cells place a) = omega (arith, length-set cells place a) in
       ap (λ (p : Page A). written more p .place) (put-room a cells place room) ∙ written-place more (set cells place a) (place + 1) later ∙ omega arith
+
+  -- ---- what was poured
+
+  pub length-poured : (more table : List A) → length (poured more table) ≡ length table
+  unfolding poured
+  length-poured [] table = refl
+  length-poured (a ∷ more) [] = refl
+  length-poured (a ∷ more) (old ∷ table) = ap suc (length-poured more table)
+
+  -- where all of it finds room it is the front
+  pub poured-front : (more table : List A) → length more ≤ length table → take (length more) (poured more table) ≡ more
+  unfolding poured
+  poured-front [] table h = refl
+  poured-front (a ∷ more) [] h = absurd (omega arith)
+  poured-front (a ∷ more) (old ∷ table) h = ap (λ (l : List A). a ∷ l) (poured-front more table (omega arith))

@@ -1,5 +1,5 @@
 -- "Spaces and tabs separate. Blank lines and lines whose first byte is # are skipped": the bytes by name, and the class of each.
-use mathlib.Core.Bool.{Bool, true, false, _&&_, _||_, cond}
+use mathlib.Core.Bool.{Bool, true, false}
 use Prim.Native.Nat.{ℕ, _-_, _+_}
 use lib.Dec.{eqb, leb}
 use Rattle.matrix.specs.declared.Class.{Class}

@@ -1,7 +1,7 @@
 -- What is written is the whole reply, since the page has room for the longest.
 use mathlib.Core.Bool.{Bool, true, false}
 use mathlib.Core.Path.{_≡_, refl, sym, ap, subst, _∙_}
-use mathlib.Core.List.{List, [], _∷_, _++_}
+use mathlib.Core.List.{List}
 use Prim.Native.Nat.{ℕ, suc, _+_, _*_, _≤_}
 use native.Mathlib.Numerals.{add-one}
 use native.Mathlib.Omega.{arith}
@@ -18,24 +18,11 @@ use Rattle.matrix.specs.Reader.{Read, reply, read}
 use Rattle.matrix.specs.declared.Reading.{Reading}
 use Rattle.matrix.specs.declared.Reading.the-variants.{System, Unread}
 use Rattle.matrix.proofs.Counts.{Counted, read-counted}
-use Rattle.matrix.proofs.Written.{written-front, written-place}
+use Rattle.matrix.proofs.Written.{written-front, written-place, poured-front, length-poured}
 use Rattle.reader.proofs.Answered.{short-text, long-text}
 use Rattle.matrix.specs.Printed.{printed, error}
 use Rattle.matrix.proofs.Length.{printed-short}
 use Rattle.plassobine.specs.Program.{answered, replied, program}
-
--- the front of what is poured is all of it, where there is room
-poured-front : {A : Type 0} (more table : List A) → length more ≤ length table → take (length more) (poured more table) ≡ more
-unfolding poured
-poured-front [] table h = refl
-poured-front (a ∷ more) [] h = absurd (omega arith)
-poured-front (a ∷ more) (old ∷ table) h = ap (λ (l : List _). a ∷ l) (poured-front more table (omega arith))
-
-length-poured : {A : Type 0} (more table : List A) → length (poured more table) ≡ length table
-unfolding poured
-length-poured [] table = refl
-length-poured (a ∷ more) [] = refl
-length-poured (a ∷ more) (old ∷ table) = ap suc (length-poured more table)
 
 -- what was written is what stands there, and no more
 pub all-written : (bytes cells exit : List ℕ) (place : ℕ) → length bytes ≤ length cells → page exit place ≡ written bytes (page cells 0)

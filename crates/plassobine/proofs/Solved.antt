@@ -1,10 +1,9 @@
 -- The answer to a system does not hang on what its result tables held before, and what is printed of it on five of the seven.
-use mathlib.Core.Bool.{Bool, true, false, _&&_}
+use mathlib.Core.Bool.{true}
 use mathlib.Core.Path.{_≡_, refl, sym, ap, _∙_}
 use mathlib.Core.List.{List, []}
 use Prim.Native.Nat.{ℕ, suc, _≤_, _*_}
 use lib.IntN.{ℤ}
-use lib.Dec.{eqb, leb}
 use lib.ListN.{length, length-replicate}
 use borrow.Author.Tests.{eq-eqb, le-leb}
 use Rattle.rows.specs.Row.{zeros}

@@ -5,7 +5,7 @@ use lib.IntN.{ℤ}
 use lib.ListN.{take}
 use Rattle.rows.specs.Row.{zeros}
 use Rattle.rules.specs.Outcomes.{solve, blank}
-use Rattle.matrix.specs.Reader.{read, Read}
+use Rattle.matrix.specs.Reader.{read}
 use Rattle.matrix.specs.declared.Reading.{Reading}
 use Rattle.matrix.specs.declared.Reading.the-variants.{System, Unread}
 use Rattle.matrix.specs.Printed.{printed, error}

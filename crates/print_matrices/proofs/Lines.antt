@@ -3,14 +3,13 @@ use mathlib.Core.Path.{_≡_, refl, ap}
 use mathlib.Core.Bool.{false}
 use mathlib.Core.List.{List, [], _∷_, _++_, map}
 use Prim.Native.Nat.{ℕ, suc, _+_, _-_, _*_, _≤_, _<_}
-use native.Mathlib.Nat.{add-sub-cancel-left}
 use native.Mathlib.Numerals.{add-one}
 use native.Mathlib.Omega.{arith}
 use lib.ListN.{length, take, drop, drop-of-length-le}
 use lib.IntN.{ℤ}
 use Rattle.rows.specs.Table.{rowsOf, rowAt}
-use Rattle.rows.proofs.Lists.{tail-at, row-end}
-use Rattle.rows.proofs.TableLaws.{length-rowsOf, length-rowAt, row-of}
+use Rattle.rows.proofs.Lists.{tail-at}
+use Rattle.rows.proofs.TableLaws.{row-lent, length-rowsOf, length-rowAt, row-of}
 use Rattle.matrix.specs.Printed.{turned, linesFrom}
 
 module _ (line : ℕ → List ℤ → List ℕ) (w count : ℕ) (table : List ℤ) where
@@ -25,17 +24,10 @@ module _ (line : ℕ → List ℤ → List ℕ) (w count : ℕ) (table : List �
   unfolding linesFrom
   lines-more i h = rw (tail-at (rowsOf w count table) i [] (omega (arith, length-rowsOf w count table)), row-of w count i table h, add-one i)
 
--- ---- row i of a table with rows of n + 1 numbers, as the code lends it
-pub row-lent : (n i : ℕ) (table : List ℤ) → take (i * (n + 1) + (n + 1) - i * (n + 1)) (drop (i * (n + 1)) table) ≡ rowAt (suc n) i table
-row-lent n i table = rw (add-sub-cancel-left (i * (n + 1)) (n + 1), add-one n)
-
--- it lies within a table of `count` rows, and has n + 1 numbers
-module _ (n count i : ℕ) (table : List ℤ) (h : i < count) (e : length table ≡ count * suc n) where
-  pub row-fits : i * (n + 1) + (n + 1) ≤ length table
-  row-fits = rw (add-one n) (omega (arith, row-end count (suc n) i h))
-
-  pub row-length : length (take (i * (n + 1) + (n + 1) - i * (n + 1)) (drop (i * (n + 1)) table)) ≡ suc n
-  row-length = rw (row-lent n i table) (length-rowAt (suc n) count i table h e)
+-- row i of a table of `count` rows, as the code lends it, has n + 1 numbers
+pub row-length : (n count i : ℕ) (table : List ℤ) → i < count → length table ≡ count * suc n
+    → length (take (i * (n + 1) + (n + 1) - i * (n + 1)) (drop (i * (n + 1)) table)) ≡ suc n
+row-length n count i table h e = rw (row-lent n i table) (length-rowAt (suc n) count i table h e)
 
 -- a row that is not turned
 pub turned-none : (row : List ℤ) → map (turned false) row ≡ row

@@ -1,16 +1,15 @@
 -- A number or its opposite: its sign and its absolute value, and what the bits of an i64 tell of both.
-use mathlib.Core.Path.{_≡_, refl, sym, ap, _∙_}
+use mathlib.Core.Path.{_≡_, refl, sym}
 use mathlib.Core.Bool.{Bool, true, false}
 use mathlib.Core.List.{_∷_}
-use Prim.Native.Nat.{zero, suc, _+_, _≤_, _<_, _^_}
+use Prim.Native.Nat.{zero, suc, _+_, _≤_, _<_}
 use native.Mathlib.Omega.{arith}
 use borrow.Author.Tests.{lt-ltb, le-ltb}
 use lib.IntN.{ℤ, pos, negsuc, negℤ, natAbs, _+ℤ_}
 use lib.Signed.{mag, ltZ, _≤ℤ_, _<ℤ_}
 use mir.Syntax.{w64}
-use mir.Val.{SFits, hbits, toZ, ofZ}
+use mir.Val.{SFits}
 use Rattle.whole.proofs.Integers.{natAbs-neg}
-use Rattle.whole.proofs.Taken.{back}
 use Rattle.whole.proofs.Order.{lt-nat, add, abs}
 use Rattle.matrix.specs.Bytes.{minus}
 use Rattle.matrix.specs.Printed.{decimal, signed, turned}
@@ -54,10 +53,3 @@ module _ (z : ℤ) (f : SFits w64 z) where
 
     pub nearer-fits : natAbs (z +ℤ pos 1) ≤ 9223372036854775807
     nearer-fits = omega (arith, f .sfits, mag-below z h, abs-nearer)
-
--- ---- a number that was read, tested for 0 by its bits
-pub zero-read : (z : ℤ) → mag z < 2 ^ hbits w64 → ofZ w64 z ≡ 0 → z ≡ pos 0
-zero-read z h e = sym (back z h) ∙ ap (toZ w64) e
-
-pub nonzero-read : (z : ℤ) → (ofZ w64 z ≡ 0 → ⊥) → z ≡ pos 0 → ⊥
-nonzero-read z n e = n (ap (ofZ w64) e)

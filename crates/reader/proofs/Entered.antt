@@ -1,6 +1,6 @@
 -- The second pass, one byte at a time: the bytes of the text and the line feed behind them.
 use mathlib.Core.Bool.{Bool, true, false, cond}
-use mathlib.Core.Path.{_≡_, refl, sym, ap, _∙_}
+use mathlib.Core.Path.{_≡_, refl}
 use mathlib.Core.List.{List, [], _∷_, _++_}
 use Prim.Native.Nat.{ℕ, zero, suc, _+_, _≤_, _<_}
 use native.Mathlib.Numerals.{add-one}
@@ -10,7 +10,7 @@ use lib.ListN.{length, drop, getD, length-append, drop-of-length-le}
 use lib.Seq.{drop-cons}
 use Rattle.matrix.specs.Bytes.{lineFeed}
 use Rattle.matrix.specs.Machine.{step}
-use Rattle.matrix.specs.Poured.{Page, page, put, written}
+use Rattle.matrix.specs.Poured.{Page, put, written}
 use Rattle.matrix.specs.Reader.{entryOf, ends, numbers}
 use Rattle.matrix.specs.declared.Machine.{Machine}
 

@@ -2,8 +2,9 @@
 -- the table is to read or replace element r of its rows.
 use mathlib.Core.Path.{_≡_, refl, sym, ap, _∙_}
 use mathlib.Core.List.{List, [], _∷_, _++_, append-assoc}
-use Prim.Native.Nat.{ℕ, zero, suc, _+_, _*_, _<_}
-use native.Mathlib.Nat.{zero-mul, suc-mul}
+use Prim.Native.Nat.{ℕ, zero, suc, _+_, _*_, _-_, _≤_, _<_}
+use native.Mathlib.Nat.{zero-mul, suc-mul, add-sub-cancel-left}
+use native.Mathlib.Numerals.{add-one}
 use native.Mathlib.Omega.{arith}
 use lib.ListN.{length, getD, take, drop, set, length-append, length-take, length-drop, take-append-drop}
 use lib.Seq.{length-take-le, take-at, drop-at, drop-drop, take-add}
@@ -82,3 +83,10 @@ module _ {A : Type 0} where
       let rest = setRow w r row (drop w t) in
       rw (setRow-suc w r t row, take-at (take w t) rest w first, drop-at (take w t) rest w first)
       (ap (λ (rows : List (List A)). take w t ∷ rows) (rowsOf-setRow w m r (drop w t) row (omega arith) (other-rows w m t e) l))
+
+  -- ---- row i of a table with rows of n + 1 numbers, as the code lends it
+  pub row-fits : (n count i : ℕ) (t : List A) → i < count → length t ≡ count * suc n → i * (n + 1) + (n + 1) ≤ length t
+  row-fits n count i t h e = rw (add-one n) (omega (arith, row-end count (suc n) i h))
+
+  pub row-lent : (n i : ℕ) (t : List A) → take (i * (n + 1) + (n + 1) - i * (n + 1)) (drop (i * (n + 1)) t) ≡ rowAt (suc n) i t
+  row-lent n i t = rw (add-sub-cancel-left (i * (n + 1)) (n + 1), add-one n)

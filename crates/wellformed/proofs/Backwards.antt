@@ -10,7 +10,7 @@ use Rattle.matrix.specs.Reader.{isReturn}
 use Rattle.matrix.specs.declared.Class.{Class}
 use Rattle.matrix.specs.declared.Phase.{Phase}
 use Rattle.matrix.specs.declared.Machine.{Machine}
-use Rattle.wellformed.proofs.ByteKinds.{Kind, aDigit, aMinus, aBlank, aReturn, aFeed, aMark, another, kind}
+use Rattle.matrix.proofs.ByteKinds.{Kind, aDigit, aMinus, aBlank, aReturn, aFeed, aMark, another, kind}
 use Rattle.wellformed.proofs.Following.{Following, Rest, Ended, placed}
 use Rattle.wellformed.proofs.InsideLine.{back-blank, back-digit, back-minus}
 use Rattle.wellformed.proofs.LineEnds.{ends, back-feed, back-return, back-mark, back-other}

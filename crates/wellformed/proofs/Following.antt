@@ -10,7 +10,7 @@ use Rattle.matrix.specs.Reader.{isDead}
 use Rattle.matrix.specs.declared.Phase.{Phase}
 use Rattle.matrix.specs.declared.Phase.the-variants.{Start, Lead, Marked, Signed, Digits, Gap, Return, Comment, Dead}
 use Rattle.matrix.specs.declared.Machine.{Machine}
-use Rattle.wellformed.proofs.ByteKinds.{IsBlank}
+use Rattle.matrix.proofs.ByteKinds.{IsBlank}
 use Rattle.wellformed.proofs.Cuts.{Cut}
 use Rattle.wellformed.proofs.Pieces.{blanks-blank, Counted, Spaced, InNumber, AfterMinus, InSecond, ToSecond, InFirst}
 

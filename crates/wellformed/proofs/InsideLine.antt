@@ -12,7 +12,7 @@ use Rattle.matrix.specs.Machine.{onDigit, onMinus, onBlank, firstNumber, markOf
 use Rattle.matrix.specs.declared.Phase.{Phase}
 use Rattle.matrix.specs.declared.Phase.the-variants.{Start, Lead, Marked, Signed, Digits, Gap, Return, Comment, Dead}
 use Rattle.matrix.specs.declared.Machine.{Machine}
-use Rattle.wellformed.proofs.ByteKinds.{IsBlank, blank-no-feed}
+use Rattle.matrix.proofs.ByteKinds.{IsBlank, blank-no-feed}
 use Rattle.wellformed.proofs.Cuts.{Cut, grow, weaken}
 use Rattle.wellformed.proofs.Pieces.{blanks-blank, Spaced, spaced-blank, counted-blank, spaced-digit, spaced-minus, minus-digit, number-digit, number-over}
 use Rattle.wellformed.proofs.Pieces.{second-digit, second-over, second-begins, to-blank, first-over, first-digit, header-begins}

@@ -1,6 +1,5 @@
 -- The reader and the grammar of a text agree.
 pub mod Runs
-pub mod ByteKinds
 pub mod Cuts
 pub mod Pieces
 pub mod Following

@@ -13,7 +13,7 @@ use Rattle.matrix.specs.Reader.{entryOf, ends}
 use Rattle.matrix.specs.declared.Class.{Class}
 use Rattle.matrix.specs.declared.Phase.the-variants.{Start, Marked, Digits, Gap, Comment}
 use Rattle.matrix.specs.declared.Machine.{Machine}
-use Rattle.wellformed.proofs.ByteKinds.{Kind, aDigit, aMinus, aBlank, aReturn, aFeed, aMark, another, kind}
+use Rattle.matrix.proofs.ByteKinds.{Kind, aDigit, aMinus, aBlank, aReturn, aFeed, aMark, another, kind}
 use Rattle.wellformed.proofs.Following.{inHand, placed}
 use Rattle.wellformed.proofs.Passages.{Passage, Line, pending, stay, along, to-end, one-byte, line-ends}
 use Rattle.wellformed.proofs.LinePieces.{behind, leading, moved, over, separates, lead, trail}

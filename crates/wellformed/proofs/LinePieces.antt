@@ -10,7 +10,7 @@ use Rattle.matrix.specs.Reader.{isStart, isDead, ends}
 use Rattle.matrix.specs.declared.Phase.{Phase}
 use Rattle.matrix.specs.declared.Phase.the-variants.{Start, Lead, Marked, Digits, Gap}
 use Rattle.matrix.specs.declared.Machine.{Machine}
-use Rattle.wellformed.proofs.ByteKinds.{IsBlank, isSpace, isTab}
+use Rattle.matrix.proofs.ByteKinds.{IsBlank, isSpace, isTab}
 use Rattle.wellformed.proofs.Following.{placed}
 use Rattle.wellformed.proofs.Passages.{Passage, Line, given, pending, stay, along, to-end, one-byte, line-ends}
 

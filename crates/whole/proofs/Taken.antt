@@ -1,8 +1,8 @@
 -- What a branch on two signed locals tells, whose bits the test compares, and what is read back from the bits of one.
-use mathlib.Core.Path.{_≡_, sym, ap₂, _∙_}
+use mathlib.Core.Path.{_≡_, sym, ap, ap₂, _∙_}
 use mathlib.Core.Bool.{true, false}
 use Prim.Native.Nat.{_<_, _^_}
-use lib.IntN.{ℤ}
+use lib.IntN.{ℤ, pos}
 use lib.Signed.{mag, leZ, ltZ, _≤ℤ_, _<ℤ_}
 use mir.Syntax.{Width, w64}
 use mir.Val.{SFits, hbits, toZ, ofZ}
@@ -25,3 +25,10 @@ module _ {w : Width} {a b : ℤ} (f : SFits w a) (g : SFits w b) where
 -- an element that was read, `back z (c .x .given)`, or the result of a call, `back r (c .f .ok)`
 pub back : (z : ℤ) → mag z < 2 ^ hbits w64 → toZ w64 (ofZ w64 z) ≡ z
 back z h = toZ-ofZ (record { sfits = h })
+
+-- a test of a number that was read against 0 compares its bits
+pub zero-read : (z : ℤ) → mag z < 2 ^ hbits w64 → ofZ w64 z ≡ 0 → z ≡ pos 0
+zero-read z h e = sym (back z h) ∙ ap (toZ w64) e
+
+pub nonzero-read : (z : ℤ) → (ofZ w64 z ≡ 0 → ⊥) → z ≡ pos 0 → ⊥
+nonzero-read z n e = n (ap (ofZ w64) e)

@@ -1,5 +1,4 @@
 -- `filling::clear_run` meets its contract, by those of the functions that it calls.
-use borrow.Author.Needs.{needs}
 use Rattle.filling.proofs.clear_run.Statement.{statement}
 use Rattle.filling.proofs.clear_run.Tie as tie
 

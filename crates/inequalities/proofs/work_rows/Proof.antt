@@ -12,7 +12,7 @@ use Rattle.tables.proofs.Multiples.{within-row}
 use Rattle.rules.specs.Elimination.{State}
 use Rattle.used.specs.Shown.{shownState}
 use Rattle.inequalities.specs.Worked.{rowShown, rowWorked}
-use Rattle.looks.proofs.FirstRows.{row-fits, row-lent}
+use Rattle.rows.proofs.TableLaws.{row-fits, row-lent}
 use Rattle.inequalities.proofs.WorkedRows.{Done, done-start, done-step, done-large, done-end}
 use Rattle.inequalities.proofs.work_rows.Statement.{statement}
 use Rattle.inequalities.proofs.work_rows.Tie as tie

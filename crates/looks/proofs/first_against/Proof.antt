@@ -8,7 +8,8 @@ use Rattle.rows.specs.Table.{rowAt}
 use Rattle.rows.proofs.TableLaws.{length-rowAt}
 use Rattle.tables.proofs.Multiples.{within-row}
 use Rattle.rules.specs.Inequalities.{against}
-use Rattle.looks.proofs.FirstRows.{row-fits, row-lent, Passed, passed-start, passed-here, passed-next, passed-none}
+use Rattle.rows.proofs.TableLaws.{row-fits, row-lent}
+use Rattle.looks.proofs.FirstRows.{Passed, passed-start, passed-here, passed-next, passed-none}
 use Rattle.looks.proofs.first_against.Statement.{statement}
 use Rattle.looks.proofs.first_against.Tie as tie
 

@@ -7,7 +7,8 @@ use lib.ListN.{length}
 use Rattle.rows.specs.Table.{rowAt}
 use Rattle.rows.proofs.TableLaws.{length-rowAt}
 use Rattle.rules.specs.Inequalities.{alone}
-use Rattle.looks.proofs.FirstRows.{row-fits, row-lent, Passed, passed-start, passed-here, passed-next, passed-none}
+use Rattle.rows.proofs.TableLaws.{row-fits, row-lent}
+use Rattle.looks.proofs.FirstRows.{Passed, passed-start, passed-here, passed-next, passed-none}
 use Rattle.looks.proofs.first_alone.Statement.{statement}
 use Rattle.looks.proofs.first_alone.Tie as tie
 

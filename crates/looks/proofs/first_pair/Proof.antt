@@ -9,7 +9,8 @@ use Rattle.rows.proofs.TableLaws.{length-rowAt}
 use Rattle.tables.proofs.Rowed.{rows-start}
 use Rattle.tables.proofs.Multiples.{within-row}
 use Rattle.rules.specs.Inequalities.{firstPair}
-use Rattle.looks.proofs.FirstRows.{row-fits, row-lent, rest-long, rest-within, rest-rows, pairFrom, after, after-le, pair-none, pair-here, pair-next}
+use Rattle.rows.proofs.TableLaws.{row-fits, row-lent}
+use Rattle.looks.proofs.FirstRows.{rest-long, rest-within, rest-rows, pairFrom, after, after-le, pair-none, pair-here, pair-next}
 use Rattle.looks.proofs.first_pair.Statement.{statement}
 use Rattle.looks.proofs.first_pair.Tie as tie
 

@@ -9,7 +9,7 @@ use lib.IntN.{pos}
 use Rattle.whole.proofs.Taken.{back}
 use Rattle.rows.specs.Row.{at, allZero}
 use Rattle.rules.specs.Inequalities.{positive}
-use Rattle.looks.proofs.Zeros.{zero-read, nonzero-read}
+use Rattle.whole.proofs.Taken.{zero-read, nonzero-read}
 use Rattle.looks.proofs.Conflicts.{zeros-none, zeros-here, zeros-later, alone-not, alone-by}
 use Rattle.looks.proofs.is_alone.Statement.{statement}
 use Rattle.looks.proofs.is_alone.Tie as tie

@@ -1,6 +1,5 @@
 -- `machine::class_of` meets its contract. At each key the definition computes; a digit's two tests pick its case; in `_` no key holds.
 -- Assumes nothing.
-use Prim.Native.Nat.{ℕ, _≤_, _<_}
 use mathlib.Core.Path.{_≡_, sym, ap}
 use mathlib.Core.Logic.{⊎-elim, inl, inr}
 use native.Mathlib.Omega.{arith}

@@ -4,7 +4,7 @@ use native.Mathlib.Omega.{arith}
 use Rattle.matrix.specs.Bytes.{classOf}
 use Rattle.matrix.specs.Machine.{step, onClass}
 use Rattle.matrix.specs.declared.Class.the-variants.{Digit}
-use Rattle.matrix.proofs.Classes.{digit-below}
+use Rattle.matrix.proofs.ByteKinds.{digit-below}
 use borrow.Author.Needs.{needs}
 use Rattle.machine.proofs.step.Statement.{statement}
 use Rattle.machine.proofs.step.Tie as tie

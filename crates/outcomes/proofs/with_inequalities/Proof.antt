@@ -3,7 +3,6 @@
 use mathlib.Core.Path.{refl, sym, ap, _∙_}
 use Prim.Native.Nat.{ℕ, suc, _*_}
 use native.Mathlib.Omega.{arith}
-use borrow.Author.Needs.{needs}
 use lib.ListN.{length, length-replicate}
 use lib.IntN.{pos}
 use Rattle.outcomes.proofs.Tabled.{all-blank}

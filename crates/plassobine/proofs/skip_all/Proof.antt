@@ -1,7 +1,6 @@
 -- `skip_all` ends: the turns left fall.
 use borrow.Author.Needs.{needs}
 use Prim.Native.Nat.{_-_}
-use native.Mathlib.Omega.{arith}
 use Rattle.plassobine.proofs.skip_all.Statement.{statement}
 use Rattle.plassobine.proofs.skip_all.Tie as tie
 

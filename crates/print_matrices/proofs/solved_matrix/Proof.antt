@@ -6,7 +6,8 @@ use Rattle.rows.specs.Table.{rowAt}
 use Rattle.matrix.specs.Poured.{page, written}
 use Rattle.matrix.specs.Printed.{openColumns, headerLine, solvedLine, solvedMatrix}
 use Rattle.matrix.proofs.Joined.{join, ahead, done}
-use Rattle.print_matrices.proofs.Lines.{linesAhead, lines-none, lines-more, row-fits, row-lent, row-length}
+use Rattle.rows.proofs.TableLaws.{row-fits, row-lent}
+use Rattle.print_matrices.proofs.Lines.{linesAhead, lines-none, lines-more, row-length}
 use borrow.Author.Needs.{needs}
 use native.Mathlib.Omega.{arith}
 use Rattle.print_matrices.proofs.solved_matrix.Statement.{statement}

@@ -5,7 +5,8 @@ use lib.ListN.{length}
 use Rattle.matrix.specs.Poured.{page, written}
 use Rattle.matrix.specs.Printed.{openColumns, headerLine, tightenedLine, tightenedMatrix}
 use Rattle.matrix.proofs.Joined.{join, ahead, done}
-use Rattle.print_matrices.proofs.Lines.{linesAhead, lines-none, lines-more, row-fits, row-lent, row-length}
+use Rattle.rows.proofs.TableLaws.{row-fits, row-lent}
+use Rattle.print_matrices.proofs.Lines.{linesAhead, lines-none, lines-more, row-length}
 use borrow.Author.Needs.{needs}
 use native.Mathlib.Omega.{arith}
 use Rattle.print_matrices.proofs.tightened_matrix.Statement.{statement}

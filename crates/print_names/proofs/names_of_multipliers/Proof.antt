@@ -6,7 +6,7 @@ use Rattle.rows.specs.Row.{at}
 use Rattle.matrix.specs.Poured.{page, written}
 use Rattle.matrix.specs.Printed.{openBracket, namesOfMultipliers}
 use Rattle.matrix.proofs.Joined.{join, first, ahead, done}
-use Rattle.print_numbers.proofs.Signs.{zero-read, nonzero-read}
+use Rattle.whole.proofs.Taken.{zero-read, nonzero-read}
 use Rattle.print_names.proofs.NamesAhead.{multipliedFrom, multiplied-none, multiplied-past, multiplied-here}
 use borrow.Author.Needs.{needs}
 use native.Mathlib.Omega.{arith}

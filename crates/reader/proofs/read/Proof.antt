@@ -1,8 +1,7 @@
 -- `reader::read` meets its contract: the tests pick the case.
 use mathlib.Core.Path.{_≡_, sym, ap, _∙_}
-use native.Mathlib.Omega.{arith}
-use lib.IntN.{ℤ, pos}
-use lib.ListN.{length, replicate}
+use lib.IntN.{pos}
+use lib.ListN.{replicate}
 use Prim.Native.Nat.{ℕ}
 use Rattle.rows.specs.Row.{zeros}
 use Rattle.reader.proofs.Answered.{wrong-equations, wrong-inequalities, long-text, short-text}

@@ -3,9 +3,9 @@ use mathlib.Core.Bool.{and-false}
 use mathlib.Core.Path.{refl}
 use borrow.Author.Tests.{eq-eqb, ne-eqb}
 use lib.Dec.{eqb}
-use lib.IntN.{pos, natAbs}
+use lib.IntN.{natAbs}
 use Rattle.whole.proofs.Integers.{natAbs-zero}
-use Rattle.looks.proofs.Zeros.{zero-read, nonzero-read}
+use Rattle.whole.proofs.Taken.{zero-read, nonzero-read}
 use Rattle.used.proofs.carries.Statement.{statement}
 use Rattle.used.proofs.carries.Tie as tie
 

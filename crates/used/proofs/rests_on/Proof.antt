@@ -10,7 +10,7 @@ use lib.ListN.{length, getD, drop, drop-of-length-le}
 use Rattle.whole.proofs.Integers.{natAbs-zero}
 use Rattle.rows.specs.Row.{at}
 use Rattle.rows.proofs.Lists.{row-end}
-use Rattle.looks.proofs.Zeros.{zero-read, nonzero-read}
+use Rattle.whole.proofs.Taken.{zero-read, nonzero-read}
 use Rattle.used.specs.Carrying.{among}
 use Rattle.used.proofs.Carried.{among-here}
 use Rattle.used.proofs.rests_on.Statement.{statement}

@@ -11,7 +11,6 @@ use lib.ListN.{length, getD, take}
 use lib.Seq.{length-take-le}
 use Rattle.rows.specs.Table.{rowsOf}
 use Rattle.rules.specs.Inequalities.{restsOn, usedBy}
-use Rattle.used.specs.Carrying.{carrying as carryingOf}
 use Rattle.used.proofs.Carried.{carrying-below, rests-among}
 use Rattle.used.proofs.Reasons.{setFrom, set-none, set-next, set-fits}
 use Rattle.used.proofs.used_by.Statement.{statement}

@@ -1,14 +1,12 @@
 -- `answer::reply` meets its contract: what is printed is what the program says of the text.
-use mathlib.Core.Path.{_≡_, sym, ap, subst, _∙_}
-use mathlib.Core.List.{List}
-use Prim.Native.Nat.{ℕ, suc, _+_, _*_, _≤_}
+use mathlib.Core.Path.{_≡_, subst}
+use Prim.Native.Nat.{_+_, _*_, _≤_}
 use native.Mathlib.Omega.{arith}
-use lib.ListN.{length, take}
-use Rattle.matrix.specs.Poured.{page, written}
+use lib.ListN.{length}
 use Rattle.matrix.specs.declared.Reading.{Reading}
-use Rattle.matrix.specs.declared.Reading.the-variants.{System, Unread}
+use Rattle.matrix.specs.declared.Reading.the-variants.{System}
 use Rattle.matrix.proofs.Counts.{Counted}
-use Rattle.plassobine.specs.Program.{program, replied}
+use Rattle.plassobine.specs.Program.{program}
 use Rattle.plassobine.proofs.Replied.{program-system, program-unread, counted-reading}
 use Rattle.plassobine.proofs.Rooms.{area, inside, front, front-rows}
 use borrow.Author.Needs.{needs}

@@ -1,5 +1,4 @@
 -- `print::used_by` meets its contract.
-use mathlib.Core.Path.{_≡_, ap, _∙_}
 use borrow.Author.Needs.{needs}
 use Rattle.plassobine.proofs.print.used_by.Statement.{statement}
 use Rattle.plassobine.proofs.print.used_by.Tie as tie

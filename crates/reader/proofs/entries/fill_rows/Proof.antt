@@ -3,7 +3,7 @@ use borrow.Author.Needs.{needs}
 use mathlib.Core.Bool.{cond}
 use mathlib.Core.Path.{_≡_, refl, sym, ap, _∙_}
 use mathlib.Core.List.{[], _∷_, _++_}
-use Prim.Native.Nat.{ℕ, suc, _+_, _-_, _≤_}
+use Prim.Native.Nat.{suc, _+_, _-_, _≤_}
 use native.Mathlib.Omega.{arith}
 use lib.IntN.{ℤ}
 use lib.ListN.{length, drop, getD}
@@ -12,7 +12,6 @@ use Rattle.matrix.specs.Bytes.{lineFeed}
 use Rattle.matrix.specs.Machine.{begin, step}
 use Rattle.matrix.specs.Poured.{Page, page, put, written}
 use Rattle.matrix.specs.Reader.{entryOf, ends, numbers, numbersOf}
-use Rattle.matrix.specs.declared.Machine.{Machine}
 use Rattle.matrix.proofs.Written.{written-front}
 use Rattle.machine.specs.Sound.{Sound}
 use Rattle.reader.proofs.Entered.{numbers-byte, numbers-end}

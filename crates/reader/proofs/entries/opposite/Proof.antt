@@ -1,7 +1,7 @@
 -- `entries::opposite` meets its contract: a number of ten digits and its opposite fit a signed one.
 use native.Mathlib.Omega.{arith}
 use Prim.Native.Nat.{ℕ, zero, suc, _<_, _^_}
-use mathlib.Core.Path.{_∙_, ap}
+use mathlib.Core.Path.{_∙_}
 use lib.IntN.{pos, negℤ, negsuc, _-ℤ_, +ℤ-idl}
 use lib.Signed.{mag}
 use mir.Syntax.{w64}

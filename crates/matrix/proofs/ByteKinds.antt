@@ -52,3 +52,10 @@ kind b = go (leb 48 b) refl (leb b 57) refl
 pub blank-no-feed : {b : ℕ} → IsBlank b → b ≡ lineFeed → ⊥
 blank-no-feed isSpace e = omega arith
 blank-no-feed isTab e = omega arith
+
+-- the digit of a byte
+pub digit-below : (b d : ℕ) → classOf b ≡ Digit d → d < 10
+digit-below b d e = below (subst (Kind b) e (kind b))
+  where
+    below : {b d : ℕ} → Kind b (Digit d) → d < 10
+    below (aDigit d h) = h
