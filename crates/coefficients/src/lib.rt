@@ -1,8 +1,10 @@
 // The coefficients of a row: the smallest, the quotients by it, and whether two rows are opposites.
 ghost use mathlib.Core.Path.{_≡_};
 ghost use mathlib.Core.Bool.{true};
-ghost use lib.IntN.{pos};
+ghost use Prim.Native.Nat.{_≤_};
+ghost use lib.IntN.{pos, natAbs};
 ghost use lib.ListN.{length};
+ghost use Rattle.whole.specs.Limit.{W};
 ghost use Rattle.rows.specs.Row.{smallest as smallestOf, quotients as quotientsOf, opposite, allWithin};
 
 // The column of the non-zero number of smallest magnitude, the lowest on a tie: found from the last column to the first.
@@ -29,7 +31,7 @@ pub fn smallest(row: &[i64]) -> usize
 
 // The quotients of the row's numbers by a.
 pub fn quotients(into: &mut [i64], row: &[i64], a: i64)
-    requires { ⌜ (length (now into) ≡ length (now row)) × (allWithin (now row) ≡ true) × (a ≡ pos 0 → ⊥) ⌝ }
+    requires { ⌜ (length (now into) ≡ length (now row)) × (allWithin (now row) ≡ true) × (natAbs a ≤ W) × (a ≡ pos 0 → ⊥) ⌝ }
     ensures { λ _. ⌜ now (into .exit) ≡ quotientsOf a (now (row .entry)) ⌝ }
 {
     let mut i = 0;

@@ -13,7 +13,7 @@ pub fn gcd_of(row: &[i64]) -> u64
     let mut i = 0;
     while i < row.len() {
         let z = row[i];
-        g = whole::gcd(g, whole::magnitude(z));
+        g = whole::gcd(whole::magnitude(z), g);
         i += 1;
     }
     g

@@ -24,7 +24,7 @@ fn lowest_terms(multipliers: &mut [i64], d: u64) -> u64
     if g != 1 {
         rows::divide(multipliers, whole::signed(g));
     }
-    d / g
+    whole::over(d, g)
 }
 
 // (a) where g is 2 or more: the row divided by g, its gcd; the divisor multiplied by g; lowest terms.
@@ -58,8 +58,8 @@ pub fn correct(
         return Kept::Fits(h);
     }
     let e = whole::gcd(h, d);
-    let share = d / e;
-    let f = multiples::product(b, whole::signed(h / e));
+    let share = whole::over(d, e);
+    let f = multiples::product(b, whole::signed(whole::over(h, e)));
     let product = h * share;
     if 268435455 < product {
         return Kept::Beyond;

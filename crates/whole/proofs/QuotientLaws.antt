@@ -43,6 +43,19 @@ pub remainder-one : (z a : ℤ) → natAbs a ≡ 1 → remainder z a ≡ pos 0
 remainder-one z a e =
     rw (remainder-is z a) (natAbs-zero (remZ z a) (omega (arith, rem-less z a (omega arith))))
 
+-- by 1 and by -1 the quotient is the number and its opposite, whatever the rounding
+pub quotient-one : (z : ℤ) → quotient z (pos 1) ≡ z
+quotient-one z = rest (quotient z (pos 1)) (remainder z (pos 1)) (quotient-remainder z (pos 1)) (remainder-one z (pos 1) refl)
+  where
+    rest : (q r : ℤ) → z ≡ q *ℤ pos 1 +ℤ r → r ≡ pos 0 → q ≡ z
+    rest q r e n = rw (e, n) (ring (q ∷ []) (search reify) (search reify) refl)
+
+pub quotient-minus : (z : ℤ) → quotient z (negsuc 0) ≡ pos 0 -ℤ z
+quotient-minus z = rest (quotient z (negsuc 0)) (remainder z (negsuc 0)) (quotient-remainder z (negsuc 0)) (remainder-one z (negsuc 0) refl)
+  where
+    rest : (q r : ℤ) → z ≡ q *ℤ negsuc 0 +ℤ r → r ≡ pos 0 → q ≡ pos 0 -ℤ z
+    rest q r e n = rw (e, n) (ring (q ∷ []) (search reify) (search reify) refl)
+
 -- what is left by a divisor not larger is less than half: z has the divisor and what is left in it, and the divisor is the larger
 pub remainder-half : (z a : ℤ) → 0 < natAbs a → natAbs a ≤ natAbs z → 2 * natAbs (remainder z a) < natAbs z
 remainder-half z a p h = rw (remainder-is z a, rem-abs z a) (half (natAbs z) (natAbs a) p h)

@@ -40,7 +40,11 @@ quotient-requires c κs =
     let s = l .before in
     let row = s .args .row .now in
     let i = l .loop .i in
-    (omega (arith, bits-le w64 (at row i), bounded-at W row i (s .pre .1)), rw (toZ-ofZ (s .fits .a)) (s .pre .2))
+    (
+      omega (arith, bits-le w64 (at row i), bounded-at W row i (s .pre .1)),
+      rw (toZ-ofZ (s .fits .a)) (s .pre .2),
+      rw (toZ-ofZ (s .fits .a)) (s .pre .3),
+    )
 
 mul-t6 : tie.Need-mul-t6 Inv-loop μ-loop
 mul-t6 c = search needs

@@ -7,7 +7,7 @@ use lib.IntN.{natAbs}
 use lib.ListN.{length, drop}
 use Rattle.whole.specs.Limit.{W}
 use Rattle.whole.specs.Gcd.{gcd}
-use Rattle.whole.proofs.GcdLaws.{gcd-assoc, gcd-zero-l, gcd-zero-r}
+use Rattle.whole.proofs.GcdLaws.{gcd-comm, gcd-assoc, gcd-zero-l, gcd-zero-r}
 use Rattle.whole.proofs.Taken.{back}
 use Rattle.rows.specs.Row.{at, gcdOf}
 use Rattle.rows.proofs.Bounded.{bounded-at}
@@ -55,7 +55,10 @@ loop-again c =
     let more = gcdOf-more row i (omega arith) in (
       search needs,
       rw (c .gcd .ensures, c .before .magnitude .ensures, back (at row i) (c .before .before .z .given))
-          (gcd-assoc g (natAbs (at row i)) (gcdOf (drop (i + 1) row)) ∙ ap (gcd g) (sym more) ∙ l .loop .inv .1),
+          (ap (λ x. gcd x (gcdOf (drop (i + 1) row))) (gcd-comm (natAbs (at row i)) g)
+              ∙ gcd-assoc g (natAbs (at row i)) (gcdOf (drop (i + 1) row))
+              ∙ ap (gcd g) (sym more)
+              ∙ l .loop .inv .1),
     )
 
 returns : tie.Need-returns Inv-loop μ-loop

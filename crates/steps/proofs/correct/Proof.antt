@@ -2,7 +2,7 @@
 -- new divisor can be beyond the limit, and each is tested.
 use mathlib.Core.Path.{_≡_, sym, ap, ap₂, _∙_}
 use mathlib.Core.Bool.{true, _&&_, and-false}
-use Prim.Native.Nat.{ℕ, _*_, _/_, _≤_}
+use Prim.Native.Nat.{ℕ, _*_, _/_, _≤_, _<_}
 use native.Mathlib.Nat.{le-trans, one-le-mul, mul-le-mul, div-le-self}
 use native.Mathlib.Omega.{arith}
 use borrow.Author.Needs.{needs}
@@ -58,16 +58,22 @@ decided c = let s = c .before .before in let a = s .args in listed-some (a .k) (
 gcd-requires : tie.Need-gcd-requires
 gcd-requires c κs = search needs
 
-div-share : tie.Need-div-share
-div-share c =
+-- what h and d have in common is not 0
+common : (c : tie.After-gcd) → 0 < c .gcd .result
+common c =
     let s = c .before .before .before in rw (c .gcd .ensures) (gcd-nonzero-r (s .args .h) (s .args .d) (s .pre .0 .3 .0))
 
-div-signed : tie.Need-div-signed
-div-signed c = div-share c
+over-requires : tie.Need-over-requires
+over-requires c κs = common c
+
+over-requires-2 : tie.Need-over-requires-2
+over-requires-2 c κs = common (c .before)
 
 -- the new divisor: it is what the definition says, and its product fits
-share : (c : tie.After-gcd) → let s = c .before .before .before in s .args .d / c .gcd .result ≡ shareOf (s .args .d) (entry s)
-share c = ap (λ (e : ℕ). c .before .before .before .args .d / e) (c .gcd .ensures)
+share : (c : tie.After-over) → let s = c .before .before .before .before in c .over .result ≡ shareOf (s .args .d) (entry s)
+share c =
+    let g = c .before in
+    c .over .ensures ∙ ap (λ (e : ℕ). g .before .before .before .args .d / e) (g .gcd .ensures)
 
 size : (c : tie.After-gcd) → let s = c .before .before .before in
     (1 ≤ s .args .h * shareOf (s .args .d) (entry s)) × (s .args .h * shareOf (s .args .d) (entry s) ≤ W * W)
@@ -80,53 +86,57 @@ size c =
 
 signed-requires : tie.Need-signed-requires
 signed-requires c κs =
-    let s = c .before .before .before in omega (arith, div-le-self (s .args .h) (c .gcd .result), s .pre .0 .2 .1)
+    let g = c .before .before in
+    let s = g .before .before .before in
+    omega (arith, c .over2 .ensures, div-le-self (s .args .h) (g .gcd .result), s .pre .0 .2 .1)
 
 -- h / e as a signed number
-part : (c : tie.After-signed) → let g = c .before in toZ w64 (ofZ w64 (c .signed .result)) ≡ pos (g .before .before .before .args .h / g .gcd .result)
-part c = back (c .signed .result) (c .signed .ok) ∙ c .signed .ensures
+part : (c : tie.After-signed) → let g = c .before .before .before in
+    toZ w64 (ofZ w64 (c .signed .result)) ≡ pos (g .before .before .before .args .h / g .gcd .result)
+part c = back (c .signed .result) (c .signed .ok) ∙ c .signed .ensures ∙ ap pos (c .before .over2 .ensures)
 
 product-requires : tie.Need-product-requires
 product-requires c κs =
-    let g = c .before in
+    let g = c .before .before .before in
     let s = g .before .before .before in
     rw (read (g .before .before), part c)
     (bounded-at W (s .args .row .now) (s .args .k) (s .pre .1 .0), le-trans (div-le-self (s .args .h) (g .gcd .result)) (s .pre .0 .2 .1))
 
 -- the code's f
-factor-is : (c : tie.After-product) → let s = c .before .before .before .before .before in
+factor-is : (c : tie.After-product) → let s = c .before .before .before .before .before .before .before in
     toZ w64 (ofZ w64 (c .product .result)) ≡ factor (s .args .k) (s .args .d) (entry s)
 unfolding factor
 factor-is c =
-    let g = c .before .before in
+    let g = c .before .before .before .before in
     let s = g .before .before .before in
     back (c .product .result) (c .product .ok) ∙ c .product .ensures
     ∙ ap₂ (λ (a b : ℤ). a *ℤ b) (read (g .before .before)) (part (c .before) ∙ ap (λ (e : ℕ). pos (s .args .h / e)) (g .gcd .ensures))
 
 mul-product : tie.Need-mul-product
 mul-product c =
-    let g = c .before .before in
-    record { fits = rw (share g) (let h = size g in omega arith) }
+    let o = c .before .before .before in
+    record { fits = rw (share o) (let h = size (o .before) in omega arith) }
 
 returns-2 : tie.Need-returns-2
 returns-2 c =
-    let g = c .before .before .before in
+    let v = c .before .before .before .before in
+    let g = v .before in
     let s = g .before .before .before in
-    let large = rw (share g) at (c .if2 .taken) in
+    let large = rw (share v) at (c .if2 .taken) in
     rw (decided (g .before), lt-leb (s .args .h * shareOf (s .args .d) (entry s)) W large, and-false, and-false)
 
 within-requires : tie.Need-within-requires
 within-requires c κs = search needs
 
 -- the test of f
-tested : (c : tie.After-within) → let s = c .before .before .before .before .before .before .before in
+tested : (c : tie.After-within) → let s = c .before .before .before .before .before .before .before .before .before in
     within (factor (s .args .k) (s .args .d) (entry s)) ≡ c .within .result
 tested c = ap within (sym (factor-is (c .before .before))) ∙ sym (c .within .ensures)
 
 returns-3 : tie.Need-returns-3
 returns-3 c =
     let w = c .before in
-    rw (decided (w .before .before .before .before .before), tested w ∙ not-true _ (c .if3 .taken))
+    rw (decided (w .before .before .before .before .before .before .before), tested w ∙ not-true _ (c .if3 .taken))
 
 mul-row : tie.Need-mul-row
 mul-row c = search needs
@@ -136,28 +146,30 @@ slice-set-of-row c = search needs
 
 signed-requires-2 : tie.Need-signed-requires-2
 signed-requires-2 c κs =
-    let g = c .before .before .before .before .before .before in
+    let v = c .before .before .before .before .before .before .before in
+    let g = v .before in
     let s = g .before .before .before in
-    omega (arith, div-le-self (s .args .d) (g .gcd .result), s .pre .0 .3 .1)
+    omega (arith, v .over .ensures, div-le-self (s .args .d) (g .gcd .result), s .pre .0 .3 .1)
 
 -- d / e as a signed number
-share-read : (c : tie.After-signed2) → let s = c .before .before .before .before .before .before .before .before .before .before in
+share-read : (c : tie.After-signed2) → let s = c .before .before .before .before .before .before .before .before .before .before .before .before in
     toZ w64 (ofZ w64 (c .signed2 .result)) ≡ pos (shareOf (s .args .d) (entry s))
 share-read c =
-    let g = c .before .before .before .before .before .before .before in
-    back (c .signed2 .result) (c .signed2 .ok) ∙ c .signed2 .ensures ∙ ap pos (share g)
+    let v = c .before .before .before .before .before .before .before .before in
+    back (c .signed2 .result) (c .signed2 .ok) ∙ c .signed2 .ensures ∙ ap pos (share v)
 
 blend-requires : tie.Need-blend-requires
 blend-requires c κs =
     let o = c .before .before in
     let z = toZ w64 (ofZ w64 (o .before .before .before .product .result)) in
-    let s = o .before .before .before .before .before .before .before .before in
+    let s = o .before .before .before .before .before .before .before .before .before .before in
     let f : natAbs z ≤ W = within-true z (sym (o .before .within .ensures) ∙ not-false _ (o .if3 .left)) in
     let g : shareOf (s .args .d) (entry s) ≤ W = le-trans (div-le-self (s .args .d) (gcd (s .args .h) (s .args .d))) (s .pre .0 .3 .1) in
     (s .pre .0 .1, rw (share-read c) g, omega arith, s .pre .1 .1, s .pre .1 .2)
 
 -- what the code blends
-blended-is : (c : tie.After-blend) → let s = c .before .before .before .before .before .before .before .before .before .before .before in let a = s .args in
+blended-is : (c : tie.After-blend) →
+    let s = c .before .before .before .before .before .before .before .before .before .before .before .before .before in let a = s .args in
     (c .blend .last .0 ≡ blended (a .k) (a .d) (a .reason .now) (entry s)) × (c .blend .result ≡ allWithin (blended (a .k) (a .d) (a .reason .now) (entry s)))
 blended-is c =
     rw (share-read (c .before), factor-is (c .before .before .before .before .before .before)) at (c .blend .ensures)
@@ -172,15 +184,16 @@ returns-4 : tie.Need-returns-4
 returns-4 c =
     let b = c .before .before in
     let o = b .before .before .before in
-    rw (decided (o .before .before .before .before .before .before), sym (blended-is b .1) ∙ not-true _ (c .if4 .taken), and-false)
+    rw (decided (o .before .before .before .before .before .before .before .before), sym (blended-is b .1) ∙ not-true _ (c .if4 .taken), and-false)
 
 lowest-terms-requires : tie.Need-lowest-terms-requires
 lowest-terms-requires c κs =
     let b = c .before .before .before in
     let e = b .before .before .before .before .before in
-    let g = e .before .before .before in
+    let v = e .before .before .before .before in
+    let g = v .before in
     let all : allWithin (b .blend .last .0) ≡ true = rw (b .blend .ensures .0, ← b .blend .ensures .1) (not-false _ (c .before .if4 .left)) in
-    rw (share g) (all, (size g .0, rw (share g) at (e .if2 .left)))
+    rw (share v) (all, (size g .0, rw (share v) at (e .if2 .left)))
 
 same-length-3 : tie.Need-same-length-3
 same-length-3 c = search needs
@@ -195,10 +208,11 @@ returns-5 c =
     let b = l .before .before in
     let o = b .before .before .before in
     let e = o .before .before in
-    let g = e .before .before .before in
+    let v = e .before .before .before .before in
+    let g = v .before in
     let s = g .before .before .before in
     let a = s .args in
-    let small = rw (share g) at (e .if2 .left) in
+    let small = rw (share v) at (e .if2 .left) in
     rw (
       decided (g .before),
       tested (o .before) ∙ not-false _ (o .if3 .left),
@@ -208,7 +222,7 @@ returns-5 c =
       t .lowest-terms .ensures .0,
       t .lowest-terms .ensures .1,
       blended-is b .0,
-      share g,
+      share v,
     )
 
 pub correct-spec : {M : Type 1} → statement M
@@ -219,8 +233,8 @@ correct-spec =
     slice-copy-out-b
     returns
     gcd-requires
-    div-share
-    div-signed
+    over-requires
+    over-requires-2
     signed-requires
     product-requires
     mul-product

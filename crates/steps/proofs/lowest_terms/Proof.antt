@@ -1,5 +1,5 @@
 -- `steps::lowest_terms` meets its contract: to divide by 1 is to leave the multipliers as they are.
-use mathlib.Core.Path.{_≡_, refl, sym, ap, _∙_}
+use mathlib.Core.Path.{_≡_, sym, ap, _∙_}
 use mathlib.Core.Logic.{⊎-elim}
 use Prim.Native.Nat.{ℕ, _≤_, _<_}
 use native.Mathlib.Omega.{arith}
@@ -47,8 +47,8 @@ divide-requires c κs =
     let h = between g in
     (g .before .before .before .pre .0, λ e. let z : g .gcd .result ≡ 0 = cc (read c) in omega arith)
 
-div-result : tie.Need-div-result
-div-result c = let h = between (c .before) in omega arith
+over-requires : tie.Need-over-requires
+over-requires c κs = between (c .before) .0
 
 -- the multipliers after the branch
 made : (c : tie.Joined1) → let s = c .before .before .before .before in
@@ -62,11 +62,11 @@ made c =
 
 same-length : tie.Need-same-length
 same-length c =
-    let s = c .before .before .before .before in
-    ap length (made c) ∙ length-divided (pos (c .before .gcd .result)) (s .args .multipliers .now)
+    let s = c .before .before .before .before .before in
+    ap length (made (c .before)) ∙ length-divided (pos (c .before .before .gcd .result)) (s .args .multipliers .now)
 
 returns : tie.Need-returns
-returns c = rw (← found (c .before)) (refl, made c)
+returns c = rw (← found (c .before .before)) (c .over .ensures, made (c .before))
 
 pub lowest-terms-spec : {M : Type 1} → statement M
 lowest-terms-spec =
@@ -76,6 +76,6 @@ lowest-terms-spec =
     gcd-requires
     signed-requires
     divide-requires
-    div-result
+    over-requires
     same-length
     returns)

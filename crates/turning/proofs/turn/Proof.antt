@@ -16,7 +16,7 @@ use mir.Val.{toZ, ofZ}
 use Rattle.whole.specs.Limit.{W}
 use Rattle.whole.proofs.Taken.{back}
 use Rattle.rows.specs.Row.{at, quotients, allWithin}
-use Rattle.rows.proofs.Bounded.{bounded-take}
+use Rattle.rows.proofs.Bounded.{bounded-at, bounded-take}
 use Rattle.steps.proofs.Attempts.{lent-length}
 use Rattle.turning.proofs.TurnedStep.{lead-nonzero, column-inside, picked, step-is, length-quotients, picked-within, turned-none, turned-made}
 use Rattle.turning.proofs.turn.Statement.{statement}
@@ -141,6 +141,7 @@ quotients-requires c κs =
     let t = s .args .rows .now in (
       length-take-le (n + 1) empty (omega arith) ∙ sym (length-take-le (n + 1) t (omega (arith, first-row s))),
       bounded-take W (n + 1) t (s .pre .1 .0),
+      rw (lead (c .before .before)) (bounded-at W t (c .before .before .before .smallest .result) (s .pre .1 .0)),
       λ e. nonzero (c .before .before .before) (sym (lead (c .before .before)) ∙ e),
     )
 

@@ -1,11 +1,11 @@
--- `whole::gcd` meets its contract: each round keeps the greatest common divisor, and the second number falls until it is 0.
+-- `whole::gcd` meets its contract: each round keeps the greatest common divisor, and the second number falls until it is 1 or 0.
 use mathlib.Core.Path.{_≡_, sym, ap, _∙_}
 use Prim.Native.Nat.{_<_}
 use native.Mathlib.Nat.{mod-lt}
 use native.Mathlib.Omega.{arith}
 use borrow.Author.Needs.{needs}
 use Rattle.whole.specs.Gcd.{gcd}
-use Rattle.whole.proofs.GcdLaws.{gcd-zero-r, gcd-step}
+use Rattle.whole.proofs.GcdLaws.{gcd-zero-r, gcd-one-r, gcd-step}
 use Rattle.whole.proofs.gcd.Statement.{statement}
 use Rattle.whole.proofs.gcd.Tie as tie
 
@@ -29,8 +29,14 @@ loop-again c = gcd-step (c .before .loop .x) (c .before .loop .y) (omega arith) 
 
 returns : tie.Need-returns Inv-loop μ-loop
 returns c =
-    let x = c .before .loop .x in
-    sym (gcd-zero-r x) ∙ ap (gcd x) (sym (c .loop-test .left)) ∙ c .before .loop .inv
+    let l = c .before .before .loop in
+    sym (gcd-one-r (l .x)) ∙ ap (gcd (l .x)) (sym (c .if1 .taken)) ∙ l .inv
+
+returns-2 : tie.Need-returns-2 Inv-loop μ-loop
+returns-2 c =
+    let l = c .before .before .loop in
+    sym (gcd-zero-r (l .x)) ∙ ap (gcd (l .x)) (omega arith) ∙ l .inv
 
 pub gcd-spec : {M : Type 1} → statement M
-gcd-spec = tie.close (tie.spec Inv-loop μ-loop loop-holds rem-rest loop-less loop-again returns)
+gcd-spec =
+    tie.close (tie.spec Inv-loop μ-loop loop-holds rem-rest loop-less loop-again returns returns-2)
