@@ -39,8 +39,7 @@ quotient-requires c κs =
     let l = c .before .before in
     let s = l .before in
     let row = s .args .row .now in
-    let i = l .loop .i in
-    (
+    let i = l .loop .i in (
       omega (arith, bits-le w64 (at row i), bounded-at W row i (s .pre .1)),
       rw (toZ-ofZ (s .fits .a)) (s .pre .2),
       rw (toZ-ofZ (s .fits .a)) (s .pre .3),

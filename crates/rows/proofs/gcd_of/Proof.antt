@@ -56,9 +56,9 @@ loop-again c =
       search needs,
       rw (c .gcd .ensures, c .before .magnitude .ensures, back (at row i) (c .before .before .z .given))
           (ap (λ x. gcd x (gcdOf (drop (i + 1) row))) (gcd-comm (natAbs (at row i)) g)
-              ∙ gcd-assoc g (natAbs (at row i)) (gcdOf (drop (i + 1) row))
-              ∙ ap (gcd g) (sym more)
-              ∙ l .loop .inv .1),
+          ∙ gcd-assoc g (natAbs (at row i)) (gcdOf (drop (i + 1) row))
+          ∙ ap (gcd g) (sym more)
+          ∙ l .loop .inv .1),
     )
 
 returns : tie.Need-returns Inv-loop μ-loop
