@@ -64,6 +64,20 @@ fn eliminate_in(
     }
 }
 
+// Room for rows or multipliers, at most 8 equations in 16 unknowns: zeros all over the large room would take longer than a small run.
+fn small_room() -> [i64; 136]
+    ensures { λ r. ⌜ 136 ≡ length r ⌝ }
+{
+    [0; 136]
+}
+
+// Room for rows or multipliers of every system.
+fn large_room() -> [i64; 1056]
+    ensures { λ r. ⌜ 1056 ≡ length r ⌝ }
+{
+    [0; 1056]
+}
+
 // The whole run over the equations; its tables hold what document 01 says of each answer.
 pub fn eliminate(
     equations: &[i64],
@@ -86,9 +100,28 @@ pub fn eliminate(
 {
     let size = m * (n + 1);
     let square = m * m;
-    let mut rows = [0i64; 1056];
-    let mut multipliers = [0i64; 1024];
     let mut divisors = [1u64; 32];
+    if m <= 8 {
+        if n <= 16 {
+            let mut few_rows = small_room();
+            let mut few_multipliers = small_room();
+            return eliminate_in(
+                &mut few_rows[..size],
+                &mut few_multipliers[..square],
+                &mut divisors[..m],
+                equations,
+                substitution,
+                marks,
+                back,
+                reasons,
+                conflict,
+                n,
+                m,
+            );
+        }
+    }
+    let mut rows = large_room();
+    let mut multipliers = large_room();
     eliminate_in(
         &mut rows[..size],
         &mut multipliers[..square],

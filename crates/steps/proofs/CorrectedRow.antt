@@ -12,7 +12,7 @@ use lib.IntN.{ℤ, pos, natAbs}
 use Rattle.whole.specs.Limit.{W, within}
 use Rattle.whole.specs.Gcd.{gcd}
 use Rattle.whole.proofs.Integers.{natAbs-zero}
-use Rattle.whole.proofs.GcdLaws.{gcd-r, gcd-nonzero-r}
+use Rattle.whole.proofs.GcdLaws.{gcd-one-r, gcd-r, gcd-nonzero-r}
 use Rattle.whole.proofs.QuotientLaws.{exactly-one}
 use Rattle.rows.specs.Row.{at, less, scaled, gcdOf, divided, allWithin}
 use Rattle.rows.proofs.Bounded.{and-left, and-right, and-both, bounded-nil, bounded-cons, bounded-append, bounded-set, bounded-divided}
@@ -31,6 +31,10 @@ tried-beyond fits b e = sym (tried-fits false fits b b e)
 pub shared-nonzero : (multipliers : List ℤ) (d : ℕ) → 1 ≤ d → 0 < shared multipliers d
 unfolding shared
 shared-nonzero multipliers d h = gcd-nonzero-r (gcdOf multipliers) d h
+
+pub shared-one : (multipliers : List ℤ) → shared multipliers 1 ≡ 1
+unfolding shared
+shared-one multipliers = gcd-one-r (gcdOf multipliers)
 
 pub shared-le : (multipliers : List ℤ) (d : ℕ) → 1 ≤ d → shared multipliers d ≤ d
 unfolding shared

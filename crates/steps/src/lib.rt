@@ -20,6 +20,10 @@ fn lowest_terms(multipliers: &mut [i64], d: u64) -> u64
     requires { ⌜ (allWithin (now multipliers) ≡ true) × Divisor d ⌝ }
     ensures { λ r. ⌜ (r ≡ d / shared (now (multipliers .entry)) d) × (now (multipliers .exit) ≡ divided (pos (shared (now (multipliers .entry)) d)) (now (multipliers .entry))) ⌝ }
 {
+    // most divisors of a run are 1, and a 1 has nothing to share
+    if d == 1 {
+        return 1;
+    }
     let g = whole::gcd(rows::gcd_of(multipliers), d);
     if g != 1 {
         rows::divide(multipliers, whole::signed(g));
