@@ -7,6 +7,7 @@ Every array that is lent has a guard on either side. At the first difference the
 exit status is 1; it is 1 too if some kind of outcome did not occur.
 """
 
+import concurrent.futures
 import ctypes
 import os
 import random
@@ -17,6 +18,7 @@ import time
 from collections import Counter
 
 import document01
+import document_systems
 import generate
 
 FIXED_SEED = 20_260
@@ -127,7 +129,8 @@ def extremes(rng, system):
 
 
 def systems(rng):
-    """Systems of every kind, in turn."""
+    """The document's systems, then systems of every kind, in turn."""
+    yield from document_systems.SYSTEMS
     sources = [source for source in generate.WRITABLE + generate.FOR_THE_SOLVER if source is not generate.large]
     for index in range(SYSTEMS):
         system = next(sources[index % len(sources)](rng, 1))
@@ -250,19 +253,24 @@ def run_texts(library, seed, counts):
 
 
 def compare(library, seed):
-    """All calls of a seed, with the counts printed."""
-    # first of all, so that the seed is known even if a call should crash
-    print("seed %d" % seed, flush=True)
+    """All calls of a seed; the lines that say how many of which kind there were."""
     began = time.monotonic()
     counts = {name: Counter() for name in EXPECTED_KINDS}
     run_systems(library, seed, counts)
     run_texts(library, seed, counts)
-    print("  %.0f s" % (time.monotonic() - began))
+    lines = ["seed %d, %.0f s" % (seed, time.monotonic() - began)]
     for name, expected in EXPECTED_KINDS.items():
         line = ", ".join("%s %d" % pair for pair in sorted(counts[name].items()))
-        print("  plassobine_%s, %d calls: %s" % (name, sum(counts[name].values()), line))
+        lines.append("  plassobine_%s, %d calls: %s" % (name, sum(counts[name].values()), line))
         if set(counts[name]) != expected:
             raise Difference("seed %d: these did not occur: %s" % (seed, sorted(expected - set(counts[name]))))
+    return "\n".join(lines)
+
+
+def compare_seed(archive, seed):
+    """A worker's work: the library loaded, and all calls of one seed."""
+    with tempfile.TemporaryDirectory() as directory:
+        return compare(load(archive, directory), seed)
 
 
 def main(arguments):
@@ -270,12 +278,13 @@ def main(arguments):
         sys.stderr.write("usage: compare_library.py ARCHIVE [SEED]\n")
         return 2
     seeds = [int(arguments[1])] if len(arguments) == 2 else [FIXED_SEED, int.from_bytes(os.urandom(4), "big")]
-    with tempfile.TemporaryDirectory() as directory:
-        library = load(arguments[0], directory)
+    # first of all, so that the seeds are known even if a call should crash
+    print("seeds: %s" % ", ".join(map(str, seeds)), flush=True)
+    with concurrent.futures.ProcessPoolExecutor() as workers:
         try:
-            for seed in seeds:
-                compare(library, seed)
-        except Difference as difference:
+            for lines in workers.map(compare_seed, [arguments[0]] * len(seeds), seeds):
+                print(lines)
+        except (Difference, concurrent.futures.process.BrokenProcessPool) as difference:
             print("DIFFERENCE: %s" % difference)
             return 1
     print("the library and the independent program agree")

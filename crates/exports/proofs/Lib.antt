@@ -1,4 +1,3 @@
--- Laws of the exported functions, and what their numbers tell.
-mod Five
-pub mod Told
+-- Laws of the exported functions, and the example that is printed.
+mod Room
 pub mod Example

@@ -4,8 +4,6 @@ ghost use mathlib.Core.Path.{_≡_};
 ghost use Rattle.solver.specs.Answered.{tables as tablesOf};
 ghost use Rattle.exports.specs.Numbered.{returned, solved, checked, readInto};
 
-mod numbers;
-
 #[no_mangle]
 pub extern "C" fn plassobine_solve(
     n: usize,

@@ -4,8 +4,8 @@ ghost use Prim.Native.Nat.{suc, _≤_, _*_};
 ghost use lib.ListN.{length, take};
 ghost use Rattle.matrix.specs.Poured.{page as pageOf, written};
 ghost use Rattle.plassobine.specs.Program.{answered, program};
-use crate::print::print;
 use matrix::Reading;
+use print_outcomes::print;
 
 // Room for the rows of n variables, and for the other tables. A call settles what they hold, so only their lengths matter.
 fn rows() -> [i64; 1056]

@@ -3,7 +3,6 @@ ghost use mathlib.Core.Path.{_≡_};
 ghost use lib.ListN.{length};
 
 mod answer;
-mod print;
 
 use libc::STDIN_FILENO;
 use libc::STDOUT_FILENO;

@@ -1,7 +1,8 @@
 -- `plassobine_check` meets its contract: the checker's answer in numbers, where there is room for them.
 use Rattle.rules.specs.declared.Verdict.{Verdict}
-use Rattle.exports.specs.Numbered.{ofVerdict, checked}
-use Rattle.exports.proofs.Five.{without-room, with-room}
+use Rattle.numbers.specs.Numbers.{ofVerdict}
+use Rattle.exports.specs.Numbered.{checked}
+use Rattle.exports.proofs.Room.{without-room, with-room}
 use borrow.Author.Needs.{needs}
 use Rattle.exports.proofs.plassobine_check.Statement.{statement}
 use Rattle.exports.proofs.plassobine_check.Tie as tie

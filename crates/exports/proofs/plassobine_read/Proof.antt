@@ -1,7 +1,8 @@
 -- `plassobine_read` meets its contract: the reader's answer in numbers, where there is room for them.
 use Rattle.matrix.specs.Reader.{Read, reply}
-use Rattle.exports.specs.Numbered.{ofReading, readInto}
-use Rattle.exports.proofs.Five.{without-room, with-room}
+use Rattle.numbers.specs.Numbers.{ofReading}
+use Rattle.exports.specs.Numbered.{readInto}
+use Rattle.exports.proofs.Room.{without-room, with-room}
 use borrow.Author.Needs.{needs}
 use Rattle.exports.proofs.plassobine_read.Statement.{statement}
 use Rattle.exports.proofs.plassobine_read.Tie as tie

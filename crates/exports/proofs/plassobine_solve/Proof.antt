@@ -1,8 +1,9 @@
 -- `plassobine_solve` meets its contract: the solver's answer in numbers, where there is room for them.
 use Rattle.rules.specs.Outcomes.{Answer, solve}
 use Rattle.solver.specs.Answered.{answer, tables}
-use Rattle.exports.specs.Numbered.{ofOutcome, solved}
-use Rattle.exports.proofs.Five.{without-room, with-room}
+use Rattle.numbers.specs.Numbers.{ofOutcome}
+use Rattle.exports.specs.Numbered.{solved}
+use Rattle.exports.proofs.Room.{without-room, with-room}
 use borrow.Author.Needs.{needs}
 use Rattle.exports.proofs.plassobine_solve.Statement.{statement}
 use Rattle.exports.proofs.plassobine_solve.Tie as tie

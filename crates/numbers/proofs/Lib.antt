@@ -1,0 +1,3 @@
+-- Five numbers, stored; and what they tell.
+mod Stored
+pub mod Told

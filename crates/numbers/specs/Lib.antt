@@ -1,0 +1,2 @@
+-- The answers in numbers.
+pub mod Numbers
