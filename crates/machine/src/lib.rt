@@ -3,19 +3,16 @@ ghost use mathlib.Core.Path.{_≡_};
 ghost use Prim.Native.Nat.{_≤_};
 ghost use Rattle.matrix.specs.Bytes.{classOf};
 ghost use Rattle.matrix.specs.Machine.{onDigit, onMinus, onBlank, onCarriageReturn, onLineFeed, onCommentMark, onOther, step as stepOf};
-
-mod moves;
-
-use crate::moves::after_minus;
-use crate::moves::first_number;
-use crate::moves::in_phase;
-use crate::moves::line_ends;
-use crate::moves::minus_begins;
-use crate::moves::next_digit;
-use crate::moves::next_number;
 use matrix::Class;
 use matrix::Machine;
 use matrix::Phase;
+use moves::after_minus;
+use moves::first_number;
+use moves::in_phase;
+use moves::line_ends;
+use moves::minus_begins;
+use moves::next_digit;
+use moves::next_number;
 
 fn class_of(b: u8) -> Class
     ensures { λ r. ⌜ r ≡ classOf b ⌝ }

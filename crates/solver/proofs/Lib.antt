@@ -1,3 +1,2 @@
--- Laws of the solver: a run that ended otherwise, and the cases of a call.
-pub mod Ended
+-- Laws of the solver: the cases of a call.
 pub mod Called

@@ -1,8 +1,8 @@
 -- `moves::after_minus` meets its contract.
 use mathlib.Core.Path.{refl}
 use Rattle.matrix.specs.Machine.{afterMinus}
-use Rattle.machine.proofs.moves.after_minus.Statement.{statement}
-use Rattle.machine.proofs.moves.after_minus.Tie as tie
+use Rattle.moves.proofs.after_minus.Statement.{statement}
+use Rattle.moves.proofs.after_minus.Tie as tie
 
 returns : tie.Need-returns
 unfolding afterMinus

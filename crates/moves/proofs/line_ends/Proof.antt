@@ -2,8 +2,8 @@
 use borrow.Author.Tests.{eq-eqb, ne-eqb}
 use Rattle.matrix.specs.Machine.{lineEnds}
 use borrow.Author.Needs.{needs}
-use Rattle.machine.proofs.moves.line_ends.Statement.{statement}
-use Rattle.machine.proofs.moves.line_ends.Tie as tie
+use Rattle.moves.proofs.line_ends.Statement.{statement}
+use Rattle.moves.proofs.line_ends.Tie as tie
 
 in-phase-requires : tie.Need-in-phase-requires
 in-phase-requires c κs = search needs

@@ -2,8 +2,8 @@
 use borrow.Author.Tests.{lt-ltb, le-ltb}
 use Rattle.matrix.specs.Machine.{nextDigit}
 use borrow.Author.Needs.{needs}
-use Rattle.machine.proofs.moves.next_digit.Statement.{statement}
-use Rattle.machine.proofs.moves.next_digit.Tie as tie
+use Rattle.moves.proofs.next_digit.Statement.{statement}
+use Rattle.moves.proofs.next_digit.Tie as tie
 
 add-t5 : tie.Need-add-t5
 add-t5 c = search needs

@@ -5,8 +5,8 @@ use Rattle.matrix.specs.declared.Machine.{Machine}
 use Rattle.matrix.specs.declared.Phase.the-variants.{Dead}
 use Rattle.matrix.specs.Machine.{markOf, inPhase}
 use borrow.Author.Needs.{needs}
-use Rattle.machine.proofs.moves.mark_of.Statement.{statement}
-use Rattle.machine.proofs.moves.mark_of.Tie as tie
+use Rattle.moves.proofs.mark_of.Statement.{statement}
+use Rattle.moves.proofs.mark_of.Tie as tie
 
 -- no other digit is a mark
 no-mark : (d : ℕ) (m : Machine) → (d ≡ 0 → ⊥) → (d ≡ 1 → ⊥) → markOf d m ≡ inPhase Dead m

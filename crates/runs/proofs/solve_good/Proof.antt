@@ -1,4 +1,4 @@
--- `solver::solve_good` meets its contract. A run that finished leaves its state in the tables, from which the inequalities are worked. A
+-- `runs::solve_good` meets its contract. A run that finished leaves its state in the tables, from which the inequalities are worked. A
 -- run that ended otherwise has its tables, with zeros for the inequalities. `Places` has what holds after the run.
 use mathlib.Core.Path.{sym, ap, _∙_, subst}
 use Prim.Native.Nat.{ℕ, suc}
@@ -7,12 +7,12 @@ use lib.ListN.{replicate}
 use lib.IntN.{pos}
 use Rattle.rows.specs.Table.{rowsOf}
 use Rattle.elimination.specs.Eliminated.{outcomeOf}
-use Rattle.solver.proofs.Ended.{NotOpen}
+use Rattle.runs.proofs.Ended.{NotOpen}
 use Rattle.outcomes.proofs.Finished.{run-answer}
-use Rattle.solver.proofs.solve_good.Statement.{statement}
-use Rattle.solver.proofs.solve_good.Tie as tie
-use Rattle.solver.proofs.solve_good.Proof.Places.{entry, substitution, marks, wayBack, reasons, substitution-long, marks-long, wayBack-long, reasons-long, after-run}
-use Rattle.solver.proofs.solve_good.Proof.Places.{run, steps, done, inside, conflict-blank}
+use Rattle.runs.proofs.solve_good.Statement.{statement}
+use Rattle.runs.proofs.solve_good.Tie as tie
+use Rattle.runs.proofs.solve_good.Proof.Places.{entry, substitution, marks, wayBack, reasons, substitution-long, marks-long, wayBack-long, reasons-long, after-run}
+use Rattle.runs.proofs.solve_good.Proof.Places.{run, steps, done, inside, conflict-blank}
 mod Places
 
 eliminate-requires : tie.Need-eliminate-requires

@@ -1,8 +1,8 @@
 -- `moves::in_phase` meets its contract.
 use mathlib.Core.Path.{refl}
 use Rattle.matrix.specs.Machine.{inPhase}
-use Rattle.machine.proofs.moves.in_phase.Statement.{statement}
-use Rattle.machine.proofs.moves.in_phase.Tie as tie
+use Rattle.moves.proofs.in_phase.Statement.{statement}
+use Rattle.moves.proofs.in_phase.Tie as tie
 
 returns : tie.Need-returns
 unfolding inPhase

@@ -2,8 +2,8 @@
 use native.Mathlib.Nat.{add-zero}
 use Rattle.matrix.specs.Machine.{marked}
 use borrow.Author.Needs.{needs}
-use Rattle.machine.proofs.moves.marked.Statement.{statement}
-use Rattle.machine.proofs.moves.marked.Tie as tie
+use Rattle.moves.proofs.marked.Statement.{statement}
+use Rattle.moves.proofs.marked.Tie as tie
 
 less-one-requires : tie.Need-less-one-requires
 less-one-requires c κs = search needs

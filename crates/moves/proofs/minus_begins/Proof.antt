@@ -2,8 +2,8 @@
 use borrow.Author.Tests.{eq-eqb, ne-eqb}
 use Rattle.matrix.specs.Machine.{minusBegins}
 use borrow.Author.Needs.{needs}
-use Rattle.machine.proofs.moves.minus_begins.Statement.{statement}
-use Rattle.machine.proofs.moves.minus_begins.Tie as tie
+use Rattle.moves.proofs.minus_begins.Statement.{statement}
+use Rattle.moves.proofs.minus_begins.Tie as tie
 
 in-phase-requires : tie.Need-in-phase-requires
 in-phase-requires c κs = search needs

@@ -2,8 +2,8 @@
 use borrow.Author.Tests.{eq-eqb, ne-eqb}
 use Rattle.matrix.specs.Machine.{nextNumber}
 use borrow.Author.Needs.{needs}
-use Rattle.machine.proofs.moves.next_number.Statement.{statement}
-use Rattle.machine.proofs.moves.next_number.Tie as tie
+use Rattle.moves.proofs.next_number.Statement.{statement}
+use Rattle.moves.proofs.next_number.Tie as tie
 
 in-phase-requires : tie.Need-in-phase-requires
 in-phase-requires c κs = search needs

@@ -1,4 +1,4 @@
--- The places of `solver::solve_good`: what holds after the run, and where it finished.
+-- The places of `runs::solve_good`: what holds after the run, and where it finished.
 use mathlib.Core.Path.{_≡_, _∙_, subst}
 use mathlib.Core.Bool.{true}
 use mathlib.Core.List.{List}
@@ -15,9 +15,9 @@ use Rattle.stepping.specs.Worked.{stateOf}
 use Rattle.elimination.specs.Eliminated.{FinishedAs}
 use Rattle.outcomes.specs.Answered.{answer}
 use Rattle.outcomes.proofs.Tabled.{same-answer}
-use Rattle.solver.proofs.Ended.{NotOpen, alone, after-end, no-conflict}
+use Rattle.runs.proofs.Ended.{NotOpen, alone, after-end, no-conflict}
 use Rattle.outcomes.proofs.Finished.{substitution-within}
-use Rattle.solver.proofs.solve_good.Tie as tie
+use Rattle.runs.proofs.solve_good.Tie as tie
 
 -- ---- after the run: its tables, of the lengths that they came with
 abbrev pub entry : tie.After-eliminate → tie.Start

@@ -1,0 +1,2 @@
+-- Runs that end without a finish.
+mod Ended
