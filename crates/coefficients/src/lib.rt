@@ -13,14 +13,15 @@ pub fn smallest(row: &[i64]) -> usize
     ensures { λ r. ⌜ r ≡ smallestOf (now (row .entry)) ⌝ }
 {
     let mut best = row.len();
-    let mut least: u64 = 0;
+    // above every size within the limit, until a column is found
+    let mut least: u64 = 268435456;
     let mut i = row.len();
     while 0 < i {
         i -= 1;
         let z = row[i];
         let size = whole::magnitude(z);
         if size != 0 {
-            if least == 0 || size <= least {
+            if size <= least {
                 best = i;
                 least = size;
             }

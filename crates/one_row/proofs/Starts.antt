@@ -2,7 +2,8 @@
 use mathlib.Core.Path.{_≡_, refl, sym, ap, ap₂, _∙_}
 use mathlib.Core.Bool.{true}
 use mathlib.Core.List.{List, [], _∷_, _++_}
-use Prim.Native.Nat.{ℕ, suc, _≤_, _<_, _*_}
+use Prim.Native.Nat.{ℕ, suc, _≤_, _<_, _*_, _/_}
+use native.Mathlib.Nat.{pos-of-ne-zero}
 use native.Mathlib.Omega.{arith}
 use lib.ListN.{length, getD, set, take, drop, length-append, length-drop, length-set}
 use lib.Seq.{take-at, drop-at}
@@ -17,6 +18,7 @@ use Rattle.steps.specs.Shown.{tried, carry, keptRow, laterOf, Divisors}
 use Rattle.steps.specs.declared.Kept.the-variants.{Fits}
 use Rattle.stepping.specs.Worked.{inHand, Working3}
 use Rattle.stepping.proofs.Turns.{tried-true, tried-made}
+use Rattle.one_row.proofs.Gcds.{coefficients-left}
 use Rattle.one_row.proofs.Works.{one-reduced, one-listed, work-reduced, work-unmet, work-steps, coefficients-gcd, bound-is}
 
 pub record Starts (n m : ℕ) (rows multipliers : List ℤ) (divisors : List ℕ) (rows′ multipliers′ : List ℤ) (divisors′ : List ℕ) : Type 0 where
@@ -112,6 +114,17 @@ module _ {n m : ℕ} {rows multipliers : List ℤ} {divisors : List ℕ} {rows�
   goes-on =
       work-reduced n (inHand n m rows multipliers divisors) (laterOf n m rows multipliers divisors) s alive (z .fits)
       ∙ ap₂ (λ (e : Carried) (later : List Carried). fromB allWithin n e later s) (sym (z .hand)) (sym (z .later))
+
+  -- the gcd of the coefficients after (a), from those before it
+  pub left-is : gcdOf (take n rows) / gcdOf (take (suc n) rows) ≡ gcdOf (take n rows′)
+  unfolding hand′
+  left-is =
+      let g = gcdOf (take (suc n) rows) in
+      let some : 0 < g = pos-of-ne-zero alive in
+      sym
+      (sym (coefficients-gcd n rows′ (take m multipliers′) (getD divisors′ 0 0)) ∙ ap (gcdOfCoefficients n) (z .hand)
+      ∙ coefficients-left n (inHand n m rows multipliers divisors) some
+      ∙ ap (λ (c : ℕ). c / g) (coefficients-gcd n rows (take m multipliers) (getD divisors 0 0)))
 
   pub goes-unmet : (c : ℕ) → c ≡ gcdOf (take n rows′) → (c ≡ 1 → ⊥)
       → unmet (take m multipliers′) (getD divisors′ 0 0 * c) (s .steps) ≡ work allWithin n (inHand n m rows multipliers divisors) (laterOf n m rows multipliers divisors) s

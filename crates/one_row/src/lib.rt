@@ -26,12 +26,14 @@ pub fn work(
     requires { ⌜ (1 ≤ length (now divisors)) × (before ≤ 1000000) ⌝ }
     ensures { λ r. ⌜ workShown r n m (now (rows .exit)) (now (multipliers .exit)) (now (divisors .exit)) (now (substitution .exit)) (now (marks .exit)) (now (back .exit)) (now (reasons .exit)) ≡ workOf allWithin n (inHand n m (now (rows .entry)) (now (multipliers .entry)) (now (divisors .entry))) (laterOf n m (now (rows .entry)) (now (multipliers .entry)) (now (divisors .entry))) (stateOf n m (now (substitution .entry)) (now (marks .entry)) (now (back .entry)) (now (reasons .entry)) before) ⌝ }
 {
-    let w = n + 1;
-    let g = rows::gcd_of(&rows[..w]);
+    let c = rows::gcd_of(&rows[..n]);
+    let z = rows[n];
+    let g = whole::gcd(whole::magnitude(z), c);
     if g == 0 {
         return Working::Passed(before);
     }
     if 1 < g {
+        let w = n + 1;
         let kept = steps::reduce(&mut rows[..w], &mut multipliers[..m], divisors[0], g);
         match kept {
             Kept::Fits(d) => {
@@ -42,9 +44,10 @@ pub fn work(
             }
         }
     }
-    let c = rows::gcd_of(&rows[..n]);
-    if c != 1 {
-        return Working::Unmet(divisors[0] * c, before);
+    // (a) has divided the gcd of the coefficients with them
+    let left = whole::over(c, g);
+    if left != 1 {
+        return Working::Unmet(divisors[0] * left, before);
     }
     let most = stepping::most_steps(&rows[..n]);
     stepping::stepping(

@@ -1,13 +1,12 @@
--- `coefficients::smallest` meets its contract: `best` is the column found among those from i on, and `least` the size of the number there, 0 where
--- none is found. The column before i takes its place where the definition says so.
-use mathlib.Core.Path.{_≡_, sym, ap, _∙_}
+-- `coefficients::smallest` meets its contract: `best` is the column found among those from i on, and `least` the size of the number there, or
+-- a size that no number has where none is found. The column before i takes its place where the definition says so.
+use mathlib.Core.Path.{_≡_, refl, sym, ap, _∙_}
 use mathlib.Core.Logic.{_⊎_, inl, inr, ⊎-elim}
 use mathlib.Core.List.{List}
 use Prim.Native.Nat.{ℕ, _+_, _-_, _≤_, _<_}
-use native.Mathlib.Nat.{zero-add}
+use native.Mathlib.Nat.{zero-add, pos-of-ne-zero}
 use native.Mathlib.Omega.{arith}
 use borrow.Author.Needs.{needs}
-use borrow.Author.Tests.{leb-true, leb-false}
 use lib.IntN.{ℤ, pos, natAbs}
 use lib.ListN.{length, drop, List·getD-eq-default}
 use Rattle.whole.specs.Limit.{W}
@@ -18,9 +17,12 @@ use Rattle.rows.proofs.Loops.{smallest-none, smallest-zero, smallest-here, smal
 use Rattle.coefficients.proofs.smallest.Statement.{statement}
 use Rattle.coefficients.proofs.smallest.Tie as tie
 
+-- none is found yet, or the column of the least
+abbrev Least : List ℤ → ℕ → ℕ → Type 0
+Least row best least = ((natAbs (at row best) ≡ 0) × (least ≡ 268435456)) ⊎ ((0 < natAbs (at row best)) × (least ≡ natAbs (at row best)))
+
 abbrev Inv-loop : tie.InvT-loop
-Inv-loop row best₀ least₀ i₀ best least i =
-    (i ≤ length row) × (best ≡ i + smallest (drop i row)) × (least ≡ natAbs (at row best))
+Inv-loop row best₀ least₀ i₀ best least i = (i ≤ length row) × (best ≡ i + smallest (drop i row)) × Least row best least
 
 abbrev μ-loop : tie.MeasureT-loop
 μ-loop row best₀ least₀ i₀ best least i = i
@@ -28,7 +30,7 @@ abbrev μ-loop : tie.MeasureT-loop
 loop-holds : tie.Need-loop-holds Inv-loop μ-loop
 loop-holds c =
     let row = c .args .row .now in
-    (omega arith, omega (arith, smallest-none row), sym (ap natAbs (List·getD-eq-default row (pos 0) {n = length row} (omega arith))))
+    (omega arith, omega (arith, smallest-none row), inl (ap natAbs (List·getD-eq-default row (pos 0) {n = length row} (omega arith)), refl))
 
 sub-i : tie.Need-sub-i Inv-loop μ-loop
 sub-i c = search needs
@@ -70,13 +72,12 @@ loop-again : tie.Need-loop-again Inv-loop μ-loop
 loop-again c =
     let m = c .before .before in
     let l = m .before .before .before in
+    let some : natAbs (at (row m) (i m)) ≡ 0 → ⊥ = λ e. c .before .if1 .taken (size m ∙ e) in
     let leads : (natAbs (at (row m) (best m)) ≡ 0) ⊎ (natAbs (at (row m) (i m)) ≤ natAbs (at (row m) (best m))) =
-    ⊎-elim (λ w. inl (sym (l .loop .inv .2) ∙ w .taken))
-    (λ w. inr (omega (arith, leb-true (m .magnitude .result) (l .loop .least) (w .1 .taken), size m, l .loop .inv .2)))
-    (c .if2 .came) in (
+    ⊎-elim (λ w. inl (w .0)) (λ w. inr (omega (arith, c .if2 .taken, size m, w .1))) (l .loop .inv .2) in (
       omega arith,
-      smallest-here (row m) (i m) (best m) (omega arith) (known m) (λ e. c .before .if1 .taken (size m ∙ e)) leads,
-      size m,
+      smallest-here (row m) (i m) (best m) (omega arith) (known m) some leads,
+      inr (pos-of-ne-zero some, size m),
     )
 
 loop-less-2 : tie.Need-loop-less-2 Inv-loop μ-loop
@@ -84,12 +85,14 @@ loop-less-2 c = search needs
 
 loop-again-2 : tie.Need-loop-again-2 Inv-loop μ-loop
 loop-again-2 c =
-    let m = c .before .before .before in
+    let m = c .before .before in
     let l = m .before .before .before in
-    let larger : natAbs (at (row m) (best m)) < natAbs (at (row m) (i m)) =
-    omega (arith, leb-false (m .magnitude .result) (l .loop .least) (c .if3 .left), size m, l .loop .inv .2) in (
+    let larger : (0 < natAbs (at (row m) (best m))) × (natAbs (at (row m) (best m)) < natAbs (at (row m) (i m))) =
+    ⊎-elim (λ w. absurd (omega (arith, c .if2 .left, size m, w .1, bounded-at W (row m) (i m) (l .before .pre))))
+    (λ w. (w .0, omega (arith, c .if2 .left, size m, w .1)))
+    (l .loop .inv .2) in (
       omega arith,
-      smallest-before (row m) (i m) (best m) (omega arith) (known m) (λ e. c .before .if2 .left (l .loop .inv .2 ∙ e)) larger,
+      smallest-before (row m) (i m) (best m) (omega arith) (known m) (λ e. let h = larger .0 in omega arith) (larger .1),
       l .loop .inv .2,
     )
 

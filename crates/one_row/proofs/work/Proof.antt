@@ -1,66 +1,83 @@
 -- `one_row::work` meets its contract: the row is done, or (a) reduces it, which may be refused; then (b) finds a conflict, or the steps
 -- of (c) and (d) begin. `Places` has what holds after the calls.
 use mathlib.Core.Path.{sym, _∙_}
-use Prim.Native.Nat.{_+_, _≤_}
+use Prim.Native.Nat.{suc, _+_, _≤_}
 use native.Mathlib.Nat.{mul-le-mul}
 use native.Mathlib.Omega.{arith}
 use borrow.Author.Needs.{needs}
 use lib.ListN.{take}
 use lib.Seq.{length-take-le}
 use Rattle.whole.specs.Limit.{W}
-use Rattle.rows.specs.Row.{smallest}
-use Rattle.rows.proofs.Bounded.{bounded-at}
+use Rattle.whole.proofs.Taken.{back}
+use Rattle.rows.specs.Row.{at, smallest}
+use Rattle.rows.proofs.Bounded.{bounded-at, bounded-take}
 use Rattle.stepping.proofs.Turns.{tried-beyond}
 use Rattle.one_row.proofs.Works.{work-done, work-large, gcd-within, bound-small}
 use Rattle.one_row.proofs.Starts.{hand-within, goes-unmet, goes-steps}
 use Rattle.one_row.proofs.work.Statement.{statement}
 use Rattle.one_row.proofs.work.Tie as tie
-use Rattle.one_row.proofs.work.Proof.Places.{start, entry, hand, later, state, row-inside, multipliers-inside, row-length, row-within, gcd-is, nonzero, told, joined, rows-kept, multipliers-kept, coefficients-inside, coefficients-within, one}
+use Rattle.one_row.proofs.work.Proof.Places.{start, entry, hand, later, state, row-inside, multipliers-inside, row-length, row-within, gcd-is, nonzero, told, joined, rows-kept, multipliers-kept, coefficients-inside, coefficients-within, left, one}
 mod Places
-
-add-w : tie.Need-add-w
-add-w c = search needs
 
 slice-reshare-prefix-gcd-of : tie.Need-slice-reshare-prefix-gcd-of
 slice-reshare-prefix-gcd-of c = omega (arith, row-inside (c .before .before))
 
 slice-aggregate-gcd-of : tie.Need-slice-aggregate-gcd-of
-slice-aggregate-gcd-of c = sym (row-length (c .before .before .before))
+slice-aggregate-gcd-of c =
+    let s = c .before .before .before in sym (length-take-le (s .args .n) (s .args .rows .now) (omega (arith, row-inside s)))
 
 gcd-of-requires : tie.Need-gcd-of-requires
-gcd-of-requires c κs = row-within (c .before .before .before)
+gcd-of-requires c κs = let s = c .before .before .before in bounded-take W (s .args .n) (s .args .rows .now) (s .pre .0 .0 .rowsWithin)
+
+mul-z : tie.Need-mul-z
+mul-z c = search needs
+
+slice-copy-out-z : tie.Need-slice-copy-out-z
+slice-copy-out-z c = omega (arith, row-inside (c .before .before .before .before))
+
+magnitude-requires : tie.Need-magnitude-requires
+magnitude-requires c κs =
+    let s = c .before .before .before .before .before in
+    let z = at (s .args .rows .now) (s .args .n) in
+    rw (back z (c .z .given)) (omega (arith, bounded-at W (s .args .rows .now) (s .args .n) (s .pre .0 .0 .rowsWithin)))
+
+gcd-requires : tie.Need-gcd-requires
+gcd-requires c κs = search needs
 
 same-length : tie.Need-same-length
 same-length c = search needs
 
 returns : tie.Need-returns
-returns c = let s = c .before .before .before .before .before in sym (work-done (s .args .n) (hand s) (later s) (state s) (sym (gcd-is (c .before)) ∙ c .if1 .taken))
+returns c = let s = c .before .before .before .before .before .before .before .before in sym (work-done (s .args .n) (hand s) (later s) (state s) (sym (gcd-is (c .before)) ∙ c .if1 .taken))
+
+add-w : tie.Need-add-w
+add-w c = search needs
 
 slice-relend-prefix-reduce : tie.Need-slice-relend-prefix-reduce
-slice-relend-prefix-reduce c = omega (arith, row-inside (c .before .before .before .before .before .before))
+slice-relend-prefix-reduce c = omega (arith, row-inside (c .before .before .before .before .before .before .before .before .before))
 
 slice-aggregate-reduce : tie.Need-slice-aggregate-reduce
-slice-aggregate-reduce c = sym (row-length (c .before .before .before .before .before .before .before))
+slice-aggregate-reduce c = sym (row-length (c .before .before .before .before .before .before .before .before .before .before))
 
 slice-relend-prefix-reduce-2 : tie.Need-slice-relend-prefix-reduce-2
-slice-relend-prefix-reduce-2 c = multipliers-inside (c .before .before .before .before .before .before .before)
+slice-relend-prefix-reduce-2 c = multipliers-inside (c .before .before .before .before .before .before .before .before .before .before)
 
 slice-aggregate-reduce-2 : tie.Need-slice-aggregate-reduce-2
-slice-aggregate-reduce-2 c = let s = c .before .before .before .before .before .before .before .before in sym (length-take-le (s .args .m) (s .args .multipliers .now) (multipliers-inside s))
+slice-aggregate-reduce-2 c = let s = c .before .before .before .before .before .before .before .before .before .before .before in sym (length-take-le (s .args .m) (s .args .multipliers .now) (multipliers-inside s))
 
 slice-read-reduce : tie.Need-slice-read-reduce
 slice-read-reduce c = search needs
 
 reduce-requires : tie.Need-reduce-requires
 reduce-requires c κs =
-    let s = c .before .before .before .before .before .before .before .before .before in
+    let s = c .before .before .before .before .before .before .before .before .before .before .before .before in
     let a = s .args in
     let h = hand-within (a .n) (a .m) (a .rows .now) (a .multipliers .now) (a .divisors .now) (s .pre .0 .0) (s .pre .1 .0) in (
       row-within s,
       h .multipliers,
       (h .least, h .most),
       omega (arith, c .before .before .before .if2 .taken),
-      rw (c .before .before .before .before .before .gcd-of .ensures) (gcd-within (take (a .n + 1) (a .rows .now)) (row-within s)),
+      rw (gcd-is (c .before .before .before .before .before)) (gcd-within (take (suc (a .n)) (a .rows .now)) (h .row)),
     )
 
 enum-known-kept : tie.Need-enum-known-kept
@@ -84,56 +101,50 @@ returns-2 c =
     let s = entry r in
     sym (work-large (s .args .n) (hand s) (later s) (state s) (nonzero (r .before .before .before .before .before)) (tried-beyond _ _ (told r _ (c .enum-told .given .1))))
 
-slice-reshare-prefix-gcd-of-2 : tie.Need-slice-reshare-prefix-gcd-of-2
-slice-reshare-prefix-gcd-of-2 c = coefficients-inside c
+over-requires : tie.Need-over-requires
+over-requires c κs = search needs
 
-slice-aggregate-gcd-of-2 : tie.Need-slice-aggregate-gcd-of-2
-slice-aggregate-gcd-of-2 c = let j = c .before in sym (length-take-le (start j .args .n) (j .if2 .rows) (coefficients-inside j))
+slice-read-t34 : tie.Need-slice-read-t34
+slice-read-t34 c = omega (arith, joined (c .before .before .before) .some)
 
-gcd-of-requires-2 : tie.Need-gcd-of-requires-2
-gcd-of-requires-2 c κs = coefficients-within (c .before)
-
-slice-read-t30 : tie.Need-slice-read-t30
-slice-read-t30 c = omega (arith, joined (c .before .before .before .before) .some)
-
-mul-t31 : tie.Need-mul-t31
-mul-t31 c =
-    let j = c .before .before .before .before in
+mul-t35 : tie.Need-mul-t35
+mul-t35 c =
+    let j = c .before .before .before in
     let a = start j .args in
     let x = j .if2 in
     let z = joined j in
     let h = hand-within (a .n) (a .m) (x .rows) (x .multipliers) (x .divisors) (z .working) (z .some) in
-    let g : c .before .before .gcd-of2 .result ≤ W = rw (c .before .before .gcd-of2 .ensures) (gcd-within (take (a .n) (x .rows)) (coefficients-within j)) in
+    let g : c .before .before .over .result ≤ W = rw (left (c .before .before)) (gcd-within (take (a .n) (x .rows)) (coefficients-within j)) in
     record { fits = omega (arith, mul-le-mul (h .most) g) }
 
 same-length-4 : tie.Need-same-length-4
-same-length-4 c = rows-kept (c .before .before .before .before)
+same-length-4 c = rows-kept (c .before .before .before)
 
 same-length-5 : tie.Need-same-length-5
-same-length-5 c = multipliers-kept (c .before .before .before .before)
+same-length-5 c = multipliers-kept (c .before .before .before)
 
 same-length-6 : tie.Need-same-length-6
-same-length-6 c = joined (c .before .before .before .before) .many
+same-length-6 c = joined (c .before .before .before) .many
 
 returns-3 : tie.Need-returns-3
 returns-3 c =
-    let g = c .before .before in
-    let j = c .before .before .before .before in
-    goes-unmet (joined j) (nonzero (j .before)) (state (start j)) (g .gcd-of2 .result) (g .gcd-of2 .ensures) (c .before .if3 .taken)
+    let v = c .before .before in
+    let j = v .before in
+    goes-unmet (joined j) (nonzero (j .before)) (state (start j)) (v .over .result) (left v) (c .before .if3 .taken)
 
 slice-reshare-prefix-most-steps : tie.Need-slice-reshare-prefix-most-steps
-slice-reshare-prefix-most-steps c = coefficients-inside (c .before .before .before)
+slice-reshare-prefix-most-steps c = coefficients-inside (c .before .before)
 
 slice-aggregate-most-steps : tie.Need-slice-aggregate-most-steps
-slice-aggregate-most-steps c = let j = c .before .before .before .before in sym (length-take-le (start j .args .n) (j .if2 .rows) (coefficients-inside j))
+slice-aggregate-most-steps c = let j = c .before .before .before in sym (length-take-le (start j .args .n) (j .if2 .rows) (coefficients-inside j))
 
 most-steps-requires : tie.Need-most-steps-requires
-most-steps-requires c κs = (coefficients-within (c .before .before .before .before), omega (arith, one (c .before)))
+most-steps-requires c κs = (coefficients-within (c .before .before .before), omega (arith, one (c .before)))
 
 stepping-requires : tie.Need-stepping-requires
 stepping-requires c κs =
     let o = c .before .before .before .before .before .before .before in
-    let j = c .before .before .before .before .before .before .before .before .before .before .before .before in
+    let j = c .before .before .before .before .before .before .before .before .before .before .before in
     let s = start j in
     let z = joined j in
     let row = take (s .args .n) (j .if2 .rows) in
@@ -141,13 +152,13 @@ stepping-requires c κs =
     ((z .working, s .pre .0 .1), (z .some, omega (arith, one (o .before .before)), most, s .pre .1 .1))
 
 same-length-7 : tie.Need-same-length-7
-same-length-7 c = let p = c .before .before .before .before .before .before .before .before .before in omega (arith, p .stepping .kept .0, rows-kept (p .before .before .before .before .before .before .before .before .before .before .before .before .before))
+same-length-7 c = let p = c .before .before .before .before .before .before .before .before .before in omega (arith, p .stepping .kept .0, rows-kept (p .before .before .before .before .before .before .before .before .before .before .before .before))
 
 same-length-8 : tie.Need-same-length-8
-same-length-8 c = let p = c .before .before .before .before .before .before .before .before .before in omega (arith, p .stepping .kept .1 .0, multipliers-kept (p .before .before .before .before .before .before .before .before .before .before .before .before .before))
+same-length-8 c = let p = c .before .before .before .before .before .before .before .before .before in omega (arith, p .stepping .kept .1 .0, multipliers-kept (p .before .before .before .before .before .before .before .before .before .before .before .before))
 
 same-length-9 : tie.Need-same-length-9
-same-length-9 c = let p = c .before .before .before .before .before .before .before .before .before in omega (arith, p .stepping .kept .1 .1 .0, joined (p .before .before .before .before .before .before .before .before .before .before .before .before .before) .many)
+same-length-9 c = let p = c .before .before .before .before .before .before .before .before .before in omega (arith, p .stepping .kept .1 .1 .0, joined (p .before .before .before .before .before .before .before .before .before .before .before .before) .many)
 
 same-length-10 : tie.Need-same-length-10
 same-length-10 c = c .before .before .before .before .before .before .before .before .before .stepping .kept .1 .1 .1 .0
@@ -165,19 +176,23 @@ returns-4 : tie.Need-returns-4
 returns-4 c =
     let p = c .before .before .before .before .before .before .before .before .before in
     let o = p .before .before .before .before .before .before .before .before in
-    let j = p .before .before .before .before .before .before .before .before .before .before .before .before .before in
+    let j = p .before .before .before .before .before .before .before .before .before .before .before .before in
     rw (p .stepping .ensures) (goes-steps (joined j) (nonzero (j .before)) (state (start j)) (o .most-steps .result) (one (o .before .before)) (o .most-steps .ensures))
 
 pub work-spec : {M : Type 1} → statement M
 work-spec =
     tie.close
     (tie.spec
-    add-w
     slice-reshare-prefix-gcd-of
     slice-aggregate-gcd-of
     gcd-of-requires
+    mul-z
+    slice-copy-out-z
+    magnitude-requires
+    gcd-requires
     same-length
     returns
+    add-w
     slice-relend-prefix-reduce
     slice-aggregate-reduce
     slice-relend-prefix-reduce-2
@@ -190,11 +205,9 @@ work-spec =
     same-length-2
     same-length-3
     returns-2
-    slice-reshare-prefix-gcd-of-2
-    slice-aggregate-gcd-of-2
-    gcd-of-requires-2
-    slice-read-t30
-    mul-t31
+    over-requires
+    slice-read-t34
+    mul-t35
     same-length-4
     same-length-5
     same-length-6

@@ -1,22 +1,26 @@
 -- The places of `one_row::work`: what (a) does with the row in hand and, by one law where the ways from (a) meet, what the tables hold
 -- when (b) begins.
-use mathlib.Core.Path.{_≡_, sym, ap, _∙_}
+use mathlib.Core.Path.{_≡_, sym, ap, ap₂, _∙_}
 use mathlib.Core.Bool.{true}
 use mathlib.Core.List.{List}
 use mathlib.Core.Logic.{⊎-elim}
-use Prim.Native.Nat.{ℕ, suc, _+_, _*_, _≤_, _<_}
+use Prim.Native.Nat.{ℕ, suc, _+_, _*_, _/_, _≤_, _<_}
 use native.Mathlib.Numerals.{add-one}
 use native.Mathlib.Omega.{arith}
 use lib.ListN.{length, take}
 use lib.Seq.{length-take-le}
+use lib.IntN.{natAbs}
 use Rattle.whole.specs.Limit.{W}
-use Rattle.rows.specs.Row.{gcdOf, allWithin}
+use Rattle.whole.specs.Gcd.{gcd}
+use Rattle.whole.proofs.Taken.{back}
+use Rattle.rows.specs.Row.{at, gcdOf, allWithin}
 use Rattle.rows.proofs.Bounded.{bounded-take}
 use Rattle.rules.specs.Elimination.{Carried, State, reduced, listedA}
 use Rattle.steps.specs.Shown.{tried, keptRow, laterOf}
 use Rattle.steps.specs.declared.Kept.{Kept}
 use Rattle.stepping.specs.Worked.{stateOf, inHand}
-use Rattle.one_row.proofs.Starts.{Starts, starts-same, starts-reduced, rows-enough, multipliers-enough}
+use Rattle.one_row.proofs.Gcds.{row-gcd}
+use Rattle.one_row.proofs.Starts.{Starts, starts-same, starts-reduced, rows-enough, multipliers-enough, left-is}
 use Rattle.one_row.proofs.work.Tie as tie
 
 -- ---- at the start: the row in hand, the rows behind it, the results so far
@@ -41,16 +45,21 @@ row-length s = length-take-le (s .args .n + 1) (s .args .rows .now) (omega (arit
 pub row-within : (s : tie.Start) → allWithin (take (s .args .n + 1) (s .args .rows .now)) ≡ true
 row-within s = bounded-take W (s .args .n + 1) (s .args .rows .now) (s .pre .0 .0 .rowsWithin)
 
--- ---- the gcd of the row's numbers
-pub gcd-is : (q : tie.After-gcd-of) → let a = q .before .before .before .before .args in q .gcd-of .result ≡ gcdOf (take (suc (a .n)) (a .rows .now))
-gcd-is q = let a = q .before .before .before .before .args in q .gcd-of .ensures ∙ ap (λ (k : ℕ). gcdOf (take k (a .rows .now))) (add-one (a .n))
+-- ---- the gcd of the row's numbers: the constant's with that of the coefficients
+pub gcd-is : (q : tie.After-gcd) → let a = q .before .before .before .before .before .before .before .args in q .gcd .result ≡ gcdOf (take (suc (a .n)) (a .rows .now))
+gcd-is q =
+    let a = q .before .before .before .before .before .before .before .args in
+    let z = at (a .rows .now) (a .n) in
+    q .gcd .ensures
+    ∙ ap₂ gcd (q .before .magnitude .ensures ∙ ap natAbs (back z (q .before .before .z .given))) (q .before .before .before .gcd-of .ensures)
+    ∙ row-gcd (a .n) (a .rows .now)
 
-pub nonzero : (e : tie.Else1) → let a = e .before .before .before .before .before .args in gcdOf (take (suc (a .n)) (a .rows .now)) ≡ 0 → ⊥
+pub nonzero : (e : tie.Else1) → let a = e .before .before .before .before .before .before .before .before .args in gcdOf (take (suc (a .n)) (a .rows .now)) ≡ 0 → ⊥
 nonzero e z = e .if1 .left (gcd-is (e .before) ∙ z)
 
 -- ---- what `reduce` ensures of an answer
 abbrev pub entry : tie.After-reduce → tie.Start
-entry r = r .before .before .before .before .before .before .before .before .before .before
+entry r = r .before .before .before .before .before .before .before .before .before .before .before .before .before
 
 pub told : (r : tie.After-reduce) (answer : Kept) → r .reduce .result ≡ answer → let a = entry r .args in
     keptRow answer (r .reduce .last .0) (r .reduce .last .1 .0)
@@ -58,10 +67,10 @@ pub told : (r : tie.After-reduce) (answer : Kept) → r .reduce .result ≡ answ
 told r answer e = rw (e, gcd-is (r .before .before .before .before .before .before), add-one (entry r .args .n)) at (r .reduce .ensures)
 
 -- ---- where the ways from (a) meet
-pub joined : (j : tie.Joined2) → let a = j .before .before .before .before .before .before .args in let x = j .if2 in
+pub joined : (j : tie.Joined2) → let a = j .before .before .before .before .before .before .before .before .before .args in let x = j .if2 in
     Starts (a .n) (a .m) (a .rows .now) (a .multipliers .now) (a .divisors .now) (x .rows) (x .multipliers) (x .divisors)
 joined j =
-    let s = j .before .before .before .before .before .before in
+    let s = j .before .before .before .before .before .before .before .before .before in
     let a = s .args in
     let x = j .if2 in
     let n = a .n in
@@ -85,7 +94,7 @@ joined j =
     (x .came)
 
 abbrev pub start : tie.Joined2 → tie.Start
-start j = j .before .before .before .before .before .before
+start j = j .before .before .before .before .before .before .before .before .before
 
 -- the lengths are those at entry
 pub rows-kept : (j : tie.Joined2) → length (j .if2 .rows) ≡ length (start j .args .rows .now)
@@ -107,6 +116,13 @@ coefficients-inside j = omega (arith, row-inside (start j), rows-kept j)
 pub coefficients-within : (j : tie.Joined2) → allWithin (take (start j .args .n) (j .if2 .rows)) ≡ true
 coefficients-within j = bounded-take W (start j .args .n) (j .if2 .rows) (joined j .working .rowsWithin)
 
--- they have 1 as their gcd
-pub one : (x : tie.Else3) → let j = x .before .before .before in gcdOf (take (start j .args .n) (j .if2 .rows)) ≡ 1
-one x = sym (x .before .gcd-of2 .ensures) ∙ x .if3 .left
+-- their gcd, and that it is 1 where the steps begin
+pub left : (v : tie.After-over) → let j = v .before in v .over .result ≡ gcdOf (take (start j .args .n) (j .if2 .rows))
+left v =
+    let j = v .before in
+    let q = j .before .before in
+    v .over .ensures ∙ ap₂ (λ (c g : ℕ). c / g) (q .before .before .before .gcd-of .ensures) (gcd-is q)
+    ∙ left-is (joined j) (nonzero (j .before)) (state (start j))
+
+pub one : (x : tie.Else3) → let j = x .before .before in gcdOf (take (start j .args .n) (j .if2 .rows)) ≡ 1
+one x = sym (left (x .before)) ∙ x .if3 .left
