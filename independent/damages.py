@@ -1,4 +1,6 @@
-"""Damages of a text, from a seeded random.Random, some of them harmless; and of result tables."""
+"""Damages of a text, from a seeded random.Random, some of them harmless; and of tables."""
+
+from document01 import W
 
 LONGEST_TEXT = 65_536
 
@@ -124,3 +126,22 @@ def wrong_results(rng, results):
     else:
         table.append(rng.randint(-3, 3))
     return damaged_tables
+
+
+def damaged_multipliers(rng, table):
+    """The table with another multiplier, another D, or another length."""
+    changed = list(table)
+    kind = rng.randrange(6)
+    if kind == 0 and len(changed) > 1:
+        changed[rng.randrange(len(changed) - 1)] += rng.choice([-1, 1])
+    elif kind == 1 and len(changed) > 1:
+        changed[rng.randrange(len(changed) - 1)] = rng.choice([-1, 1]) * (W + rng.choice([0, 1, 2**40]))
+    elif kind == 2:
+        changed[-1] = rng.choice([0, 1, 2, changed[-1] + 1, 2 * changed[-1]])
+    elif kind == 3:
+        changed[-1] = rng.choice([-1, -2**63, 2**56, 2**56 + 1, 2**63 - 1])
+    elif kind == 4:
+        changed.append(rng.randint(-2, 2))
+    else:
+        changed.pop(rng.randrange(len(changed)))
+    return changed

@@ -12,14 +12,14 @@ from kinds import (
     near_limit, numbers, out_of_range, parities, row_through, small, solvable, sparse_row, system_of,
     through_zero, too_large_entry, too_large_inequality, too_large_run, triangular_row, wrong_lengths,
 )
-from damages import LONGEST_TEXT, at_longest, damaged, random_byte, wrong_results
+from damages import LONGEST_TEXT, at_longest, damaged, damaged_multipliers, random_byte, wrong_results
 
 __all__ = [
-    "FOR_THE_SOLVER", "LONGEST_TEXT", "WRITABLE", "at_longest", "damaged", "dense", "dependence",
-    "dependent_rows", "divisors", "edge_of_limit", "large", "many_rows", "many_steps", "near_limit", "numbers",
-    "out_of_range", "parities", "random_byte", "row_through", "small", "solvable", "sparse_row", "system_of",
-    "texts", "through_zero", "to_text", "too_large_entry", "too_large_inequality", "too_large_run",
-    "triangular_row", "wrong_lengths", "wrong_results",
+    "FOR_THE_SOLVER", "LONGEST_TEXT", "WRITABLE", "at_longest", "damaged", "damaged_multipliers", "dense",
+    "dependence", "dependent_rows", "divisors", "edge_of_limit", "large", "many_rows", "many_steps",
+    "near_limit", "numbers", "out_of_range", "parities", "random_byte", "row_through", "small", "solvable",
+    "sparse_row", "system_of", "texts", "through_zero", "to_text", "too_large_entry", "too_large_inequality",
+    "too_large_run", "triangular_row", "wrong_lengths", "wrong_results",
 ]
 
 
