@@ -13,18 +13,16 @@ pub fn smallest(row: &[i64]) -> usize
     ensures { λ r. ⌜ r ≡ smallestOf (now (row .entry)) ⌝ }
 {
     let mut best = row.len();
-    // above every size within the limit, until a column is found
-    let mut least: u64 = 268435456;
+    // the size of the number there less one: of a 0 that is the largest of all, so that a 0 is never taken
+    let mut least: u64 = 268435455;
     let mut i = row.len();
     while 0 < i {
         i -= 1;
         let z = row[i];
-        let size = whole::magnitude(z);
-        if size != 0 {
-            if size <= least {
-                best = i;
-                least = size;
-            }
+        let size = std::num::wrapping_sub_u64(whole::magnitude(z), 1);
+        if size <= least {
+            best = i;
+            least = size;
         }
     }
     best

@@ -1,10 +1,11 @@
--- `coefficients::smallest` meets its contract: `best` is the column found among those from i on, and `least` the size of the number there, or
--- a size that no number has where none is found. The column before i takes its place where the definition says so.
+-- `coefficients::smallest` meets its contract: `best` is the column found among those from i on, and `least` the size of the number there less
+-- one, or the limit where none is found. The column before i takes its place where the definition says so.
 use mathlib.Core.Path.{_≡_, refl, sym, ap, _∙_}
 use mathlib.Core.Logic.{_⊎_, inl, inr, ⊎-elim}
 use mathlib.Core.List.{List}
-use Prim.Native.Nat.{ℕ, _+_, _-_, _≤_, _<_}
-use native.Mathlib.Nat.{zero-add, pos-of-ne-zero}
+use Prim.Native.Nat.{ℕ, _+_, _-_, _≤_, _<_, _%_, _^_}
+use native.Mathlib.Decide.{decLt}
+use native.Mathlib.Nat.{zero-add, mod-eq-of-lt, mod-self}
 use native.Mathlib.Omega.{arith}
 use borrow.Author.Needs.{needs}
 use lib.IntN.{ℤ, pos, natAbs}
@@ -17,9 +18,20 @@ use Rattle.rows.proofs.Loops.{smallest-none, smallest-zero, smallest-here, smal
 use Rattle.coefficients.proofs.smallest.Statement.{statement}
 use Rattle.coefficients.proofs.smallest.Tie as tie
 
+-- a size less one, as it wraps: of 0 it is beyond every size
+abbrev LessOne : ℕ → ℕ → Type 0
+LessOne r x = ((x ≡ 0) × (W < r)) ⊎ (x ≡ r + 1)
+
+less-one : (x r : ℕ) → r < 2 ^ 64 → (r + 1) % 2 ^ 64 ≡ x → LessOne r x
+less-one x r f e = go (decLt (r + 1) (2 ^ 64))
+  where
+    go : Dec (r + 1 < 2 ^ 64) → LessOne r x
+    go (yes l) = inr (sym e ∙ mod-eq-of-lt l)
+    go (no l) = let whole : r + 1 ≡ 2 ^ 64 = omega arith in inl (sym e ∙ ap (λ y. y % 2 ^ 64) whole ∙ mod-self (2 ^ 64), omega arith)
+
 -- none is found yet, or the column of the least
 abbrev Least : List ℤ → ℕ → ℕ → Type 0
-Least row best least = ((natAbs (at row best) ≡ 0) × (least ≡ 268435456)) ⊎ ((0 < natAbs (at row best)) × (least ≡ natAbs (at row best)))
+Least row best least = ((natAbs (at row best) ≡ 0) × (least ≡ 268435455)) ⊎ (natAbs (at row best) ≡ least + 1)
 
 abbrev Inv-loop : tie.InvT-loop
 Inv-loop row best₀ least₀ i₀ best least i = (i ≤ length row) × (best ≡ i + smallest (drop i row)) × Least row best least
@@ -48,64 +60,66 @@ magnitude-requires c κs =
     let i = l .loop .i - 1 in
     rw (back (at row i) (c .z .given)) (omega (arith, bounded-at W row i (l .before .pre)))
 
+wrapping-sub-u64-requires : tie.Need-wrapping-sub-u64-requires Inv-loop μ-loop
+wrapping-sub-u64-requires c κs = search needs
+
 -- the size of the number before column i, and the column found so far, as the laws on that number's column have it
-module _ (c : tie.After-magnitude Inv-loop μ-loop) where
+module _ (c : tie.After-wrapping-sub-u64 Inv-loop μ-loop) where
   abbrev row : List ℤ
-  row = c .before .before .before .before .args .row .now
+  row = c .before .before .before .before .before .args .row .now
 
   abbrev i : ℕ
-  i = c .before .before .before .loop .i - 1
+  i = c .before .before .before .before .loop .i - 1
 
   abbrev best : ℕ
-  best = c .before .before .before .loop .best
+  best = c .before .before .before .before .loop .best
 
-  size : c .magnitude .result ≡ natAbs (at row i)
-  size = c .magnitude .ensures ∙ ap natAbs (back (at row i) (c .before .z .given))
+  within : (j : ℕ) → natAbs (at row j) ≤ W
+  within j = bounded-at W row j (c .before .before .before .before .before .pre)
+
+  size : LessOne (c .wrapping-sub-u64 .result) (natAbs (at row i))
+  size =
+      let m = c .before in
+      let told = m .magnitude .ensures ∙ ap natAbs (back (at row i) (m .before .z .given)) in
+      less-one (natAbs (at row i)) (c .wrapping-sub-u64 .result) (c .wrapping-sub-u64 .ok) (c .wrapping-sub-u64 .ensures ∙ told)
 
   known : best ≡ i + 1 + smallest (drop (i + 1) row)
-  known = let e : i + 1 ≡ c .before .before .before .loop .i = omega arith in rw e (c .before .before .before .loop .inv .1)
+  known =
+      let l = c .before .before .before .before in
+      let e : i + 1 ≡ l .loop .i = omega arith in
+      rw e (l .loop .inv .1)
 
 loop-less : tie.Need-loop-less Inv-loop μ-loop
 loop-less c = search needs
 
 loop-again : tie.Need-loop-again Inv-loop μ-loop
 loop-again c =
-    let m = c .before .before in
-    let l = m .before .before .before in
-    let some : natAbs (at (row m) (i m)) ≡ 0 → ⊥ = λ e. c .before .if1 .taken (size m ∙ e) in
+    let m = c .before in
+    let l = m .before .before .before .before in
+    let r = m .wrapping-sub-u64 .result in
+    let low : r ≤ W = ⊎-elim (λ w. omega (arith, c .if1 .taken, w .1)) (λ w. omega (arith, c .if1 .taken, w, within m (best m))) (l .loop .inv .2) in
+    let here : natAbs (at (row m) (i m)) ≡ r + 1 = ⊎-elim (λ w. absurd (omega (arith, low, w .1))) (λ w. w) (size m) in
     let leads : (natAbs (at (row m) (best m)) ≡ 0) ⊎ (natAbs (at (row m) (i m)) ≤ natAbs (at (row m) (best m))) =
-    ⊎-elim (λ w. inl (w .0)) (λ w. inr (omega (arith, c .if2 .taken, size m, w .1))) (l .loop .inv .2) in (
-      omega arith,
-      smallest-here (row m) (i m) (best m) (omega arith) (known m) some leads,
-      inr (pos-of-ne-zero some, size m),
-    )
+    ⊎-elim (λ w. inl (w .0)) (λ w. inr (omega (arith, c .if1 .taken, here, w))) (l .loop .inv .2) in
+    (omega arith, smallest-here (row m) (i m) (best m) (omega arith) (known m) (λ e. omega (arith, e, here)) leads, inr here)
 
 loop-less-2 : tie.Need-loop-less-2 Inv-loop μ-loop
 loop-less-2 c = search needs
 
 loop-again-2 : tie.Need-loop-again-2 Inv-loop μ-loop
 loop-again-2 c =
-    let m = c .before .before in
-    let l = m .before .before .before in
-    let larger : (0 < natAbs (at (row m) (best m))) × (natAbs (at (row m) (best m)) < natAbs (at (row m) (i m))) =
-    ⊎-elim (λ w. absurd (omega (arith, c .if2 .left, size m, w .1, bounded-at W (row m) (i m) (l .before .pre))))
-    (λ w. (w .0, omega (arith, c .if2 .left, size m, w .1)))
-    (l .loop .inv .2) in (
-      omega arith,
-      smallest-before (row m) (i m) (best m) (omega arith) (known m) (λ e. let h = larger .0 in omega arith) (larger .1),
-      l .loop .inv .2,
-    )
-
-loop-less-3 : tie.Need-loop-less-3 Inv-loop μ-loop
-loop-less-3 c = search needs
-
-loop-again-3 : tie.Need-loop-again-3 Inv-loop μ-loop
-loop-again-3 c =
-    let m = c .before in (
-      omega arith,
-      smallest-zero (row m) (i m) (best m) (omega arith) (known m) (sym (size m) ∙ c .if1 .left),
-      m .before .before .before .loop .inv .2,
-    )
+    let m = c .before in
+    let l = m .before .before .before .before in
+    let r = m .wrapping-sub-u64 .result in
+    let larger : natAbs (at (row m) (i m)) ≡ r + 1 → (0 < natAbs (at (row m) (best m))) × (natAbs (at (row m) (best m)) < natAbs (at (row m) (i m))) =
+    λ e. ⊎-elim (λ w. absurd (omega (arith, c .if1 .left, e, w .1, within m (i m)))) (λ w. (omega (arith, w), omega (arith, c .if1 .left, e, w)))
+    (l .loop .inv .2) in
+    let kept = known m in
+    let stays : best m ≡ i m + smallest (drop (i m) (row m)) =
+    ⊎-elim (λ w. smallest-zero (row m) (i m) (best m) (omega arith) kept (w .0))
+    (λ w. smallest-before (row m) (i m) (best m) (omega arith) kept (λ e. omega (arith, e, larger w .0)) (larger w .1))
+    (size m) in
+    (omega arith, stays, l .loop .inv .2)
 
 returns : tie.Need-returns Inv-loop μ-loop
 returns c =
@@ -125,10 +139,9 @@ smallest-spec =
     mul-z
     shared-slice-copy-out-z
     magnitude-requires
+    wrapping-sub-u64-requires
     loop-less
     loop-again
     loop-less-2
     loop-again-2
-    loop-less-3
-    loop-again-3
     returns)
