@@ -15,7 +15,8 @@ use Rattle.rows.specs.Table.{flat}
 use Rattle.rows.proofs.Bounded.{bounded-at, bounded-take}
 use Rattle.rules.specs.Elimination.{State, Carried, Step, reduced, gcdOfCoefficients, stepOf, putInto, stepped, oneMore, closed, reasonOf, corrected, listedA, listedC, listedD, stepBound, closing, stepping, fromB, work, Worked, passed, unmet, large}
 use Rattle.rules.proofs.Within.{Within, reduced-within}
-use Rattle.one_row.proofs.Works.{gcd-within, bound-small}
+use Rattle.one_row.proofs.Works.{gcd-within}
+use Rattle.stepping.proofs.LeastBits.{bound-small}
 
 abbrev Bounds : ℕ → Worked → Type 0
 Bounds steps (passed later s) = s .steps ≤ steps

@@ -7,19 +7,19 @@ use native.Mathlib.Nat.{pos-of-ne-zero}
 use native.Mathlib.Omega.{arith}
 use lib.ListN.{length, getD, set, take, drop, length-append, length-drop, length-set}
 use lib.Seq.{take-at, drop-at}
-use lib.IntN.{ℤ, natAbs}
+use lib.IntN.{ℤ}
 use Rattle.whole.specs.Limit.{W}
-use Rattle.rows.specs.Row.{at, gcdOf, smallest, allWithin}
+use Rattle.rows.specs.Row.{gcdOf, allWithin}
 use Rattle.rows.proofs.Lists.{row-end}
 use Rattle.rows.proofs.Bounded.{and-both, bounded-append, bounded-take, bounded-drop}
-use Rattle.rules.specs.Elimination.{State, Carried, reduced, listedA, gcdOfCoefficients, stepBound, stepping, fromB, work, unmet}
+use Rattle.rules.specs.Elimination.{State, Carried, reduced, listedA, gcdOfCoefficients, fromB, work, unmet}
 use Rattle.rules.proofs.Within.{Within, reduced-within}
 use Rattle.steps.specs.Shown.{tried, carry, keptRow, laterOf, Divisors}
 use Rattle.steps.specs.declared.Kept.the-variants.{Fits}
-use Rattle.stepping.specs.Worked.{inHand, Working3}
+use Rattle.stepping.specs.Worked.{inHand, stepsFrom, Working3}
 use Rattle.stepping.proofs.Turns.{tried-true, tried-made}
 use Rattle.one_row.proofs.Gcds.{coefficients-left}
-use Rattle.one_row.proofs.Works.{one-reduced, one-listed, work-reduced, work-unmet, work-steps, coefficients-gcd, bound-is}
+use Rattle.one_row.proofs.Works.{one-reduced, one-listed, work-reduced, work-unmet, work-steps, coefficients-gcd}
 
 pub record Starts (n m : ℕ) (rows multipliers : List ℤ) (divisors : List ℕ) (rows′ multipliers′ : List ℤ) (divisors′ : List ℕ) : Type 0 where
   pub working : Working3 n m rows′ multipliers′ divisors′
@@ -134,11 +134,10 @@ module _ {n m : ℕ} {rows multipliers : List ℤ} {divisors : List ℕ} {rows�
       ap (λ (x : ℕ). unmet (take m multipliers′) (getD divisors′ 0 0 * x) (s .steps)) (sym g)
       ∙ sym (goes-on ∙ work-unmet n hand′ later′ s (λ e. other (sym g ∙ e)))
 
-  pub goes-steps : (most : ℕ) → gcdOf (take n rows′) ≡ 1 → most ≡ stepBound (natAbs (at (take n rows′) (smallest (take n rows′))))
-      → stepping allWithin n most (inHand n m rows′ multipliers′ divisors′) (laterOf n m rows′ multipliers′ divisors′) s
+  pub goes-steps : gcdOf (take n rows′) ≡ 1
+      → stepsFrom n (inHand n m rows′ multipliers′ divisors′) (laterOf n m rows′ multipliers′ divisors′) s
       ≡ work allWithin n (inHand n m rows multipliers divisors) (laterOf n m rows multipliers divisors) s
   unfolding hand′ later′
-  goes-steps most one is =
+  goes-steps one =
       let g : gcdOfCoefficients n hand′ ≡ 1 = coefficients-gcd n rows′ (take m multipliers′) (getD divisors′ 0 0) ∙ one in
-      ap (λ (k : ℕ). stepping allWithin n k hand′ later′ s) (is ∙ bound-is n rows′ (omega arith))
-      ∙ sym (goes-on ∙ work-steps n hand′ later′ s g)
+      sym (goes-on ∙ work-steps n hand′ later′ s g)

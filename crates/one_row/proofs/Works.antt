@@ -1,5 +1,5 @@
 -- The cases of the work on a row, before its steps.
-use mathlib.Core.Path.{_≡_, refl, sym, ap, _∙_}
+use mathlib.Core.Path.{_≡_, sym, ap, _∙_}
 use mathlib.Core.Bool.{Bool, true, false}
 use mathlib.Core.List.{List, [], _∷_, _++_}
 use Prim.Native.Nat.{ℕ, zero, suc, _*_, _≤_, _<_}
@@ -7,18 +7,16 @@ use native.Mathlib.Omega.{arith}
 use borrow.Author.Tests.{eq-eqb, ne-eqb, lt-leb, leb-true}
 use lib.Dec.{eqb, leb}
 use lib.ListN.{take}
-use lib.Seq.{getD-take, take-take}
-use lib.IntN.{ℤ, pos, natAbs}
+use lib.Seq.{take-take}
+use lib.IntN.{ℤ, natAbs}
 use Rattle.whole.specs.Limit.{W}
 use Rattle.whole.specs.Gcd.{gcd}
-use Rattle.whole.specs.BitLength.{bitLength, halvings}
 use Rattle.whole.proofs.GcdLaws.{gcd-zero-l, gcd-le}
-use Rattle.whole.proofs.BitLengthLaws.{bitLength-mono}
-use Rattle.rows.specs.Row.{at, gcdOf, smallest, allWithin}
+use Rattle.rows.specs.Row.{gcdOf, allWithin}
 use Rattle.rows.proofs.Bounded.{and-left, and-right, bounded-nil, bounded-cons}
-use Rattle.rules.proofs.RowInHand.{column-below}
 use Rattle.steps.specs.Shown.{carry}
-use Rattle.rules.specs.Elimination.{stepOf, Carried, State, gcdOfCoefficients, lowestTerms, byGcd, reduced, numbersOf, listedA, stepBound, stepping, fromB, work, Worked, passed, unmet, large}
+use Rattle.rules.specs.Elimination.{Carried, State, gcdOfCoefficients, lowestTerms, byGcd, reduced, numbersOf, listedA, fromB, work, Worked, passed, unmet, large}
+use Rattle.stepping.specs.Worked.{stepsFrom}
 use Rattle.stepping.proofs.Turns.{choose, chosen-true, chosen-false}
 
 module _ (n : ℕ) (e : Carried) (later : List Carried) (s : State) where
@@ -43,19 +41,15 @@ module _ (n : ℕ) (e : Carried) (later : List Carried) (s : State) where
     work-reduced h = past ∙ chosen-true (allWithin (listedA (gcdOf (e .row)) e)) reducedFrom (large (s .steps)) h
 
   -- "If g is not 1: equation conflict"
-  steppingFrom : Worked
-  steppingFrom = stepping allWithin n (stepBound (natAbs (at (e .row) (smallest (take n (e .row)))))) e later s
-
   pub work-unmet : (gcdOfCoefficients n e ≡ 1 → ⊥) → fromB allWithin n e later s ≡ unmet (e .multipliers) (e .divisor * gcdOfCoefficients n e) (s .steps)
-  unfolding fromB steppingFrom
+  unfolding fromB
   work-unmet h =
-      chosen-false (eqb (gcdOfCoefficients n e) 1) steppingFrom (unmet (e .multipliers) (e .divisor * gcdOfCoefficients n e) (s .steps)) (ne-eqb (gcdOfCoefficients n e) 1 h)
+      chosen-false (eqb (gcdOfCoefficients n e) 1) (stepsFrom n e later s) (unmet (e .multipliers) (e .divisor * gcdOfCoefficients n e) (s .steps)) (ne-eqb (gcdOfCoefficients n e) 1 h)
 
-  pub work-steps : gcdOfCoefficients n e ≡ 1
-      → fromB allWithin n e later s ≡ stepping allWithin n (stepBound (natAbs (at (e .row) (smallest (take n (e .row)))))) e later s
-  unfolding fromB steppingFrom
+  pub work-steps : gcdOfCoefficients n e ≡ 1 → fromB allWithin n e later s ≡ stepsFrom n e later s
+  unfolding fromB
   work-steps h =
-      chosen-true (eqb (gcdOfCoefficients n e) 1) steppingFrom (unmet (e .multipliers) (e .divisor * gcdOfCoefficients n e) (s .steps)) (eq-eqb (gcdOfCoefficients n e) 1 h)
+      chosen-true (eqb (gcdOfCoefficients n e) 1) (stepsFrom n e later s) (unmet (e .multipliers) (e .divisor * gcdOfCoefficients n e) (s .steps)) (eq-eqb (gcdOfCoefficients n e) 1 h)
 
 -- where the row's gcd is 1, (a) does nothing and lists nothing
 pub one-reduced : (g : ℕ) (e : Carried) → g < 2 → reduced g e ≡ e
@@ -79,15 +73,6 @@ gcd-within (a ∷ row) h =
     go zero l more = rw (gcd-zero-l (gcdOf row)) more
     go (suc x) l more = omega (arith, gcd-le (suc x) (gcdOf row) (omega arith))
 
--- the steps of a row are fewer than 64
-limit-bits : bitLength W ≡ 28
-unfolding bitLength halvings
-limit-bits = refl
-
-pub bound-small : (x : ℕ) → x ≤ W → stepBound x ≤ 64
-unfolding stepBound
-bound-small x h = omega (arith, bitLength-mono x W h, limit-bits)
-
 module _ (n : ℕ) (rows : List ℤ) where
   -- the coefficients of the first row stand first in the table
   first-coefficients : take n (take (suc n) rows) ≡ take n rows
@@ -96,14 +81,3 @@ module _ (n : ℕ) (rows : List ℤ) where
   pub coefficients-gcd : (multipliers : List ℤ) (d : ℕ) → gcdOfCoefficients n (carry (take (suc n) rows) multipliers d) ≡ gcdOf (take n rows)
   unfolding gcdOfCoefficients
   coefficients-gcd multipliers d = ap gcdOf first-coefficients
-
-  least-below : 0 < gcdOf (take n rows) → smallest (take n rows) < n
-  unfolding stepOf
-  least-below h = column-below n rows h
-
-  pub bound-is : 0 < gcdOf (take n rows)
-      → stepBound (natAbs (at (take n rows) (smallest (take n rows)))) ≡ stepBound (natAbs (at (take (suc n) rows) (smallest (take n (take (suc n) rows)))))
-  bound-is h =
-      let k = smallest (take n rows) in
-      let b = least-below h in
-      rw (first-coefficients, getD-take n rows k (pos 0) b, getD-take (suc n) rows k (pos 0) (omega arith))

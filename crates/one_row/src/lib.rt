@@ -49,7 +49,6 @@ pub fn work(
     if left != 1 {
         return Working::Unmet(divisors[0] * left, before);
     }
-    let most = stepping::most_steps(&rows[..n]);
     stepping::stepping(
         rows,
         multipliers,
@@ -60,7 +59,6 @@ pub fn work(
         reasons,
         n,
         m,
-        most,
         before,
     )
 }

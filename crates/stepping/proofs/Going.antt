@@ -80,10 +80,11 @@ module _ {goal : Worked} {n m bound : ℕ} {rows multipliers : List ℤ} {diviso
     same = sym (goes-on n m (left - 1) count rows multipliers divisors substitution marks back reasons column lead rows′ substitution′ back′ made other) ∙ ahead-is;
   }
 
-  -- the column of a step is a column of the table, and the coefficient there is a number of it
-  module _ (column : ℕ) (lead : ℤ) (rows′ substitution′ back′ : List ℤ) (made : Steps n m rows multipliers divisors substitution marks back reasons column lead rows′ substitution′ back′) where
-    pub column-small : column < n
-    column-small = rw (made .columnIs) (column-below n (take (suc n) rows) (rw (take-take n (suc n) rows (omega arith)) (g .alive)))
+-- the column of a step is a column of the table, and the coefficient there is a number of it
+module _ {n m : ℕ} {rows multipliers : List ℤ} {divisors : List ℕ} {substitution : List ℤ} {marks : List ℕ} {back reasons : List ℤ} {column : ℕ} {lead : ℤ} {rows′ substitution′ back′ : List ℤ}
+    (made : Steps n m rows multipliers divisors substitution marks back reasons column lead rows′ substitution′ back′) where
+  pub column-small : 0 < gcdOf (take n rows) → column < n
+  column-small h = rw (made .columnIs) (column-below n (take (suc n) rows) (rw (take-take n (suc n) rows (omega arith)) h))
 
-    pub lead-small : natAbs lead ≤ W
-    lead-small = rw (made .leadIs) (lead-within n (take (suc n) rows) (bounded-take W (suc n) rows (g .working .rowsWithin)))
+  pub lead-small : allWithin rows ≡ true → natAbs lead ≤ W
+  lead-small h = rw (made .leadIs) (lead-within n (take (suc n) rows) (bounded-take W (suc n) rows h))

@@ -4,10 +4,10 @@ use Prim.Native.Nat.{ℕ, suc, _≤_, _*_}
 use mathlib.Core.Path.{_≡_}
 use mathlib.Core.Bool.{true}
 use lib.ListN.{length, getD, take}
-use lib.IntN.{ℤ}
-use Rattle.rows.specs.Row.{allWithin}
+use lib.IntN.{ℤ, natAbs}
+use Rattle.rows.specs.Row.{at, smallest, allWithin}
 use Rattle.rows.specs.Table.{rowsOf}
-use Rattle.rules.specs.Elimination.{Carried, State, Worked, passed, unmet, large}
+use Rattle.rules.specs.Elimination.{Carried, State, Worked, passed, unmet, large, stepBound, stepping}
 use Rattle.steps.specs.Shown.{carry, laterOf, Divisors}
 use Rattle.stepping.specs.declared.Working.{Working}
 use Rattle.stepping.specs.declared.Working.the-variants.{Passed, Unmet, Large}
@@ -25,6 +25,13 @@ stateOf n m substitution marks wayBack reasons steps = record {
 -- the row in hand, first in the working tables
 abbrev pub inHand : ℕ → ℕ → List ℤ → List ℤ → List ℕ → Carried
 inHand n m rows multipliers divisors = carry (take (suc n) rows) (take m multipliers) (getD divisors 0 0)
+
+-- the steps of the row in hand, for at most as many as the bound of its smallest coefficient allows
+abbrev pub boundOf : ℕ → List ℤ → ℕ
+boundOf n row = stepBound (natAbs (at row (smallest (take n row))))
+
+abbrev pub stepsFrom : ℕ → Carried → List Carried → State → Worked
+stepsFrom n e later s = stepping allWithin n (boundOf n (e .row)) e later s
 
 -- the answer of the work on a row, with the tables after it
 abbrev pub workShown : Working → ℕ → ℕ → List ℤ → List ℤ → List ℕ → List ℤ → List ℕ → List ℤ → List ℤ → Worked

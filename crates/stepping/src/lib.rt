@@ -1,12 +1,12 @@
 // The steps of one row: (c) and (d), again and again, for at most as many steps as its bound allows.
 ghost use mathlib.Core.Path.{_≡_};
-ghost use mathlib.Core.Bool.{true};
 ghost use Prim.Native.Nat.{_≤_, _<_};
 ghost use lib.IntN.{natAbs};
 ghost use lib.ListN.{length, take};
-ghost use Rattle.rows.specs.Row.{at, gcdOf, smallest, allWithin};
-ghost use Rattle.rules.specs.Elimination.{stepBound, stepping as steppingOf};
-ghost use Rattle.stepping.specs.Worked.{stateOf, inHand, workShown, Working3, Results4};
+ghost use Rattle.whole.specs.Limit.{W};
+ghost use Rattle.rows.specs.Row.{gcdOf};
+ghost use Rattle.rules.specs.Elimination.{stepBound};
+ghost use Rattle.stepping.specs.Worked.{stateOf, inHand, stepsFrom, workShown, Working3, Results4};
 ghost use Rattle.steps.specs.Shown.{laterOf};
 use turning::Turning;
 
@@ -18,13 +18,11 @@ pub enum Working {
 }
 
 // The most steps that one row can take, from the bit length of its smallest coefficient.
-pub fn most_steps(coefficients: &[i64]) -> usize
-    requires { ⌜ (allWithin (now coefficients) ≡ true) × (0 < gcdOf (now coefficients)) ⌝ }
-    ensures { λ r. ⌜ r ≡ stepBound (natAbs (at (now (coefficients .entry)) (smallest (now (coefficients .entry))))) ⌝ }
+fn most_steps(least: i64) -> usize
+    requires { ⌜ (0 < natAbs least) × (natAbs least ≤ W) ⌝ }
+    ensures { λ r. ⌜ r ≡ stepBound (natAbs least) ⌝ }
 {
-    let k = coefficients::smallest(coefficients);
-    let a = coefficients[k];
-    let bits = whole::bit_length(whole::magnitude(a));
+    let bits = whole::bit_length(whole::magnitude(least));
     2 * (bits as usize) - 1
 }
 
@@ -39,17 +37,17 @@ pub fn stepping(
     reasons: &mut [i64],
     n: usize,
     m: usize,
-    most: usize,
     before: usize,
 ) -> Working
     requires { ⌜ Working3 n m (now rows) (now multipliers) (now divisors) × Results4 n m (now substitution) (now marks) (now back) (now reasons) ⌝ }
-    requires { ⌜ (1 ≤ length (now divisors)) × (0 < gcdOf (take n (now rows))) × (most ≤ 64) × (before ≤ 1000000) ⌝ }
-    ensures { λ r. ⌜ workShown r n m (now (rows .exit)) (now (multipliers .exit)) (now (divisors .exit)) (now (substitution .exit)) (now (marks .exit)) (now (back .exit)) (now (reasons .exit)) ≡ steppingOf allWithin n most (inHand n m (now (rows .entry)) (now (multipliers .entry)) (now (divisors .entry))) (laterOf n m (now (rows .entry)) (now (multipliers .entry)) (now (divisors .entry))) (stateOf n m (now (substitution .entry)) (now (marks .entry)) (now (back .entry)) (now (reasons .entry)) before) ⌝ }
+    requires { ⌜ (1 ≤ length (now divisors)) × (0 < gcdOf (take n (now rows))) × (before ≤ 1000000) ⌝ }
+    ensures { λ r. ⌜ workShown r n m (now (rows .exit)) (now (multipliers .exit)) (now (divisors .exit)) (now (substitution .exit)) (now (marks .exit)) (now (back .exit)) (now (reasons .exit)) ≡ stepsFrom n (inHand n m (now (rows .entry)) (now (multipliers .entry)) (now (divisors .entry))) (laterOf n m (now (rows .entry)) (now (multipliers .entry)) (now (divisors .entry))) (stateOf n m (now (substitution .entry)) (now (marks .entry)) (now (back .entry)) (now (reasons .entry)) before) ⌝ }
 {
-    let mut left = most;
+    let mut k = coefficients::smallest(&rows[..n]);
+    let mut left = most_steps(rows[k]);
     let mut count = before;
     while 0 < left {
-        let found = turning::turn(rows, substitution, back, divisors.len(), n);
+        let found = turning::turn(rows, substitution, back, divisors.len(), n, k);
         match found {
             Turning::TooFar => {
                 return Working::Large(count);
@@ -73,6 +71,7 @@ pub fn stepping(
                 }
             }
         }
+        k = coefficients::smallest(&rows[..n]);
         count += 1;
         left -= 1;
     }

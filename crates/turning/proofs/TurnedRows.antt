@@ -5,9 +5,10 @@ use mathlib.Core.Bool.{true}
 use mathlib.Core.List.{List, [], _∷_, _++_}
 use Prim.Native.Nat.{ℕ, zero, suc, _+_, _*_, _≤_, _<_}
 use native.Mathlib.Nat.{suc-mul, mul-le-mul-right}
+use native.Mathlib.Numerals.{add-one}
 use native.Mathlib.Omega.{arith}
 use lib.ListN.{length, getD, take, set, replicate, length-take}
-use lib.Seq.{take-all, take-suc, getD-take, take-set-lt}
+use lib.Seq.{take-all, take-suc}
 use lib.IntN.{ℤ, pos, negℤ, natAbs, _+ℤ_}
 use mir.Syntax.{w64}
 use mir.Val.{toZ, ofZ, SFits}
@@ -16,11 +17,18 @@ use Rattle.whole.proofs.Integers.{natAbs-neg}
 use Rattle.whole.proofs.Reify.{reify, ring}
 use Rattle.whole.proofs.Steps.{steps, read-by, fits-by}
 use Rattle.rows.specs.Row.{at, zeros, unitRow, less, gathered, bounded, allWithin}
-use Rattle.rows.specs.Table.{rowsOf, flat, rowAt}
+use Rattle.rows.specs.Table.{rowsOf, flat, rowAt, setRow}
 use Rattle.rows.proofs.Bounded.{and-left, and-right, bounded-append, bounded-at, bounded-take, bounded-drop, bounded-less, bounded-mono}
 use Rattle.rows.proofs.Algebra.{length-gathered}
 use Rattle.rows.proofs.TableLaws.{length-rowAt, length-rowsOf, flat-rowsOf, row-of}
 use Rattle.tables.proofs.Multiples.{within-row}
+use Rattle.in_place.proofs.InPlace.{row-at, row-set, set-in-row}
+
+-- ---- with 0 put at its place, row k is gathered no times
+pub put-zero : (l : List ℤ) (k : ℕ) → at (set l k (pos 0)) k ≡ pos 0
+put-zero [] k = refl
+put-zero (a ∷ l) zero = refl
+put-zero (a ∷ l) (suc k) = put-zero l k
 
 -- ---- the last of the rows that are gathered
 gathered-last : (row cs : List ℤ) (rows : List (List ℤ)) (c : ℤ) (other : List ℤ) → length cs ≡ length rows
@@ -77,6 +85,11 @@ module _ (n k : ℕ) (q t : List ℤ) (h : k < n) (e : length t ≡ n * suc n) w
   pub length-gain : length (gain n k q t) ≡ suc n
   length-gain = length-gathered (rowAt (suc n) k t) (take n q) (rowsOf (suc n) n t) ∙ length-rowAt (suc n) n k t h e
 
+  pub length-returned : length (returned n k q t) ≡ suc n
+  length-returned =
+      let rows = rowsOf (suc n) n t in
+      length-gathered (getD rows k []) q (rows ++ unitRow (suc n) n ∷ []) ∙ ap length (row-of (suc n) n k t h) ∙ length-rowAt (suc n) n k t h e
+
   -- n rows at most 32, so that the sum with one more number is far below 2 ^ 63
   gain-small : n ≤ 32 → allWithin t ≡ true → allWithin q ≡ true → natAbs (at (gain n k q t) n) ≤ W + 32 * (W * W)
   gain-small l f g =
@@ -104,22 +117,27 @@ module _ (x y : ℤ) (h : natAbs x ≤ W + 32 * (W * W)) (l : natAbs y ≤ W) wh
   sum-is : toZ w64 (ofZ w64 (toZ w64 (ofZ w64 x) +ℤ toZ w64 (ofZ w64 y))) ≡ x +ℤ y
   sum-is = read-by (search steps) tt
 
--- ---- a list l that starts with the row without the constant, and then with the one with it
-abbrev pub with-constant : ℕ → List ℤ → List ℤ → List ℤ
-with-constant n q l = set l n (toZ w64 (ofZ w64 (toZ w64 (ofZ w64 (at l n)) +ℤ toZ w64 (ofZ w64 (at q n)))))
+-- ---- the table l with the row without the constant in place of row k, and then with the one with it
+abbrev pub with-constant : ℕ → ℕ → List ℤ → List ℤ → List ℤ
+with-constant n k q l = set l (k * (n + 1) + n) (toZ w64 (ofZ w64 (toZ w64 (ofZ w64 (at l (k * (n + 1) + n))) +ℤ toZ w64 (ofZ w64 (at q n)))))
 
 module _ (n k : ℕ) (q t l : List ℤ) (h : k < n) (e : length t ≡ n * suc n) (few : n ≤ 32) (f : allWithin t ≡ true) (g : allWithin q ≡ true)
-    (starts : take (n + 1) l ≡ gain n k q t) where
-  here : at l n ≡ at (gain n k q t) n
-  here = sym (getD-take (n + 1) l n (pos 0) (omega arith)) ∙ ap (λ (m : List ℤ). at m n) starts
+    (gained : l ≡ setRow (suc n) k (gain n k q t) t) where
+  here : at l (k * (n + 1) + n) ≡ at (gain n k q t) n
+  here =
+      rw (gained, add-one n)
+      (sym (row-at (suc n) k (setRow (suc n) k (gain n k q t) t) n (omega arith))
+      ∙ ap (λ (m : List ℤ). at m n) (row-set (suc n) n k t h e (gain n k q t) (length-gain n k q t h e)))
 
-  here-small : natAbs (at l n) ≤ W + 32 * (W * W)
+  here-small : natAbs (at l (k * (n + 1) + n)) ≤ W + 32 * (W * W)
   here-small = rw here (gain-small n k q t h e few f g)
 
-  pub constant-fits : SFits w64 (toZ w64 (ofZ w64 (at l n)) +ℤ toZ w64 (ofZ w64 (at q n)))
-  constant-fits = sum-fits (at l n) (at q n) here-small (bounded-at W q n g)
+  pub constant-fits : SFits w64 (toZ w64 (ofZ w64 (at l (k * (n + 1) + n))) +ℤ toZ w64 (ofZ w64 (at q n)))
+  constant-fits = sum-fits (at l (k * (n + 1) + n)) (at q n) here-small (bounded-at W q n g)
 
-  pub with-constant-is : length q ≡ suc n → take (n + 1) (with-constant n q l) ≡ returned n k q t
+  pub with-constant-is : length q ≡ suc n → with-constant n k q l ≡ setRow (suc n) k (returned n k q t) t
   with-constant-is m =
-      rw (sum-is (at l n) (at q n) here-small (bounded-at W q n g), take-set-lt (n + 1) l n (at l n +ℤ at q n) (omega arith), starts, here)
-      (returned-is n k q t h e m)
+      let row = gain n k q t in
+      rw (sum-is (at l (k * (n + 1) + n)) (at q n) here-small (bounded-at W q n g), here, gained, add-one n)
+      (set-in-row (suc n) n k t h e row (length-gain n k q t h e) n (at row n +ℤ at q n) (omega arith)
+      ∙ ap (λ (x : List ℤ). setRow (suc n) k x t) (returned-is n k q t h e m))

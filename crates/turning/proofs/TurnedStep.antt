@@ -1,6 +1,6 @@
 -- Step (c) on tables: the column that it chooses, and what it makes of the rows, the substitution and the way back, each put to the test.
 use mathlib.Core.Path.{_≡_, refl, sym, ap, _∙_}
-use mathlib.Core.Bool.{Bool, true, false, _&&_, and-assoc}
+use mathlib.Core.Bool.{Bool, true, false, _&&_, and-false}
 use mathlib.Core.List.{List, [], _∷_, _++_, map}
 use Prim.Native.Nat.{ℕ, zero, suc, _*_, _≤_, _<_, zero-le}
 use native.Mathlib.Nat.{dvd-refl, eq-zero-of-zero-dvd}
@@ -13,7 +13,7 @@ use Rattle.whole.specs.Quotient.{quotient}
 use Rattle.rows.specs.Row.{at, gcdOf, smallest, quotients, allWithin}
 use Rattle.rows.specs.Table.{rowsOf, flat, Wide}
 use Rattle.rows.proofs.Algebra.{length-less}
-use Rattle.rows.proofs.Bounded.{and-right, bounded-append, bounded-take, bounded-set, bounded-quotients}
+use Rattle.rows.proofs.Bounded.{bounded-append, bounded-take, bounded-set, bounded-quotients}
 use Rattle.rows.proofs.Divisors.{gcdOf-greatest}
 use Rattle.rows.proofs.SmallestLaws.{smallest-is}
 use Rattle.rows.proofs.TableLaws.{length-rowsOf, wide-rowsOf, rowsOf-flat}
@@ -77,37 +77,55 @@ rows-put n count k q t e =
     ap (λ (m : ℕ). rowsOf (suc n) m (flat rows)) (sym many)
     ∙ rowsOf-flat (suc n) rows (wide-without (suc n) k q (rowsOf (suc n) count t) (wide-rowsOf (suc n) count t e))
 
--- ---- the three tables t, u, v, that became t′, u′, v′, and the answers b, c, d to whether each fits
-module _ (n count k : ℕ) (a : ℤ) (q t u v t′ u′ v′ : List ℤ) (b c d : Bool) where
+-- ---- the three tables t, u, v, that became t′, u′, v′
+module _ (n count k : ℕ) (a : ℤ) (q t u v : List ℤ) where
   abbrev after : Turned
   after = turned n (stepAt k a q) (rowsOf (suc n) count t) (rowsOf (suc n) n u) (rowsOf (suc n) n v)
 
   abbrev listed : List ℤ
   listed = listedTurn n (stepAt k a q) (rowsOf (suc n) count t) (rowsOf (suc n) n u) (rowsOf (suc n) n v)
 
-  module _
-      (first : b ≡ allWithin (flat (putRows n count k q t)))
-      (second : c ≡ allWithin (flat (putRows n n k q u)))
-      (third : tried d (rowsOf (suc n) n v′) ≡ tried (allWithin (returned n k q v)) (set (rowsOf (suc n) n v) k (returned n k q v)))
-    where
-      -- the listed numbers fit where all three do
-      verdict : (b && c) && d ≡ allWithin listed
-      unfolding putIn wayBackRow
-      verdict =
-          let x = flat (putRows n count k q t) in
-          let y = flat (putRows n n k q u) in
-          let z = returned n k q v in
-          let last : d ≡ allWithin z = tried-fits d (allWithin z) (rowsOf (suc n) n v′) (set (rowsOf (suc n) n v) k z) third in
-          rw (first, second, last, and-assoc (allWithin x) (allWithin y) (allWithin z))
-          (sym (bounded-append W x (y ++ z) ∙ ap (λ (e : Bool). allWithin x && e) (bounded-append W y z)))
+  abbrev ofRows : List ℤ
+  ofRows = flat (putRows n count k q t)
 
-      pub turned-none : (b && c) && d ≡ false → turnedTables TooFar n count t′ u′ v′ ≡ tried (allWithin listed) after
-      turned-none e = ap (λ (f : Bool). tried f after) (sym e ∙ verdict)
+  abbrev ofSubstitution : List ℤ
+  ofSubstitution = flat (putRows n n k q u)
 
-      pub turned-made : length t ≡ count * suc n → length u ≡ n * suc n → t′ ≡ flat (putRows n count k q t) → u′ ≡ flat (putRows n n k q u)
-          → (b && c) && d ≡ true → turnedTables (Made k a) n count t′ u′ v′ ≡ tried (allWithin listed) after
+  abbrev ofBack : List ℤ
+  ofBack = returned n k q v
+
+  -- the listed numbers fit where all three tables do
+  verdict : allWithin listed ≡ allWithin ofRows && (allWithin ofSubstitution && allWithin ofBack)
+  unfolding putIn wayBackRow
+  verdict =
+      bounded-append W ofRows (ofSubstitution ++ ofBack) ∙ ap (λ (e : Bool). allWithin ofRows && e) (bounded-append W ofSubstitution ofBack)
+
+  module _ (t′ u′ v′ : List ℤ) where
+    -- one that does not fit is enough
+    none : allWithin listed ≡ false → turnedTables TooFar n count t′ u′ v′ ≡ tried (allWithin listed) after
+    none e = ap (λ (f : Bool). tried f after) (sym e)
+
+    pub rows-far : allWithin ofRows ≡ false → turnedTables TooFar n count t′ u′ v′ ≡ tried (allWithin listed) after
+    rows-far e = none (verdict ∙ ap (λ (b : Bool). b && (allWithin ofSubstitution && allWithin ofBack)) e)
+
+    pub substitution-far : allWithin ofSubstitution ≡ false → turnedTables TooFar n count t′ u′ v′ ≡ tried (allWithin listed) after
+    substitution-far e = none (verdict ∙ ap (λ (b : Bool). allWithin ofRows && (b && allWithin ofBack)) e ∙ and-false (allWithin ofRows))
+
+    module _ (d : Bool) (third : tried d (rowsOf (suc n) n v′) ≡ tried (allWithin ofBack) (set (rowsOf (suc n) n v) k ofBack)) where
+      fits : d ≡ allWithin ofBack
+      fits = tried-fits d (allWithin ofBack) (rowsOf (suc n) n v′) (set (rowsOf (suc n) n v) k ofBack) third
+
+      pub back-far : d ≡ false → turnedTables TooFar n count t′ u′ v′ ≡ tried (allWithin listed) after
+      back-far e =
+          none
+          (verdict ∙ ap (λ (b : Bool). allWithin ofRows && (allWithin ofSubstitution && b)) (sym fits ∙ e)
+          ∙ ap (λ (b : Bool). allWithin ofRows && b) (and-false (allWithin ofSubstitution)) ∙ and-false (allWithin ofRows))
+
+      pub turned-made : length t ≡ count * suc n → length u ≡ n * suc n → t′ ≡ ofRows → u′ ≡ ofSubstitution
+          → allWithin ofRows ≡ true → allWithin ofSubstitution ≡ true → d ≡ true
+          → turnedTables (Made k a) n count t′ u′ v′ ≡ tried (allWithin listed) after
       unfolding putIn wayBackRow
-      turned-made l m f g e =
-          let z = returned n k q v in
-          let back = tried-made d (allWithin z) (rowsOf (suc n) n v′) (set (rowsOf (suc n) n v) k z) (and-right (b && c) d e) third in
-          rw (f, g, rows-put n count k q t l, rows-put n n k q u m, back) (ap (λ (x : Bool). tried x after) (sym e ∙ verdict))
+      turned-made l m f g first second last =
+          let back = tried-made d (allWithin ofBack) (rowsOf (suc n) n v′) (set (rowsOf (suc n) n v) k ofBack) last third in
+          let all : allWithin listed ≡ true = rw (verdict, first, second, ← fits) last in
+          rw (f, g, rows-put n count k q t l, rows-put n n k q u m, back) (ap (λ (x : Bool). tried x after) (sym all))

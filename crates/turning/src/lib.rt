@@ -3,8 +3,9 @@ ghost use mathlib.Core.Path.{_≡_};
 ghost use mathlib.Core.Bool.{true};
 ghost use mathlib.Core.List.{[], _∷_, _++_};
 ghost use Prim.Native.Nat.{suc, _≤_, _<_, _*_};
+ghost use lib.IntN.{pos};
 ghost use lib.ListN.{length, getD, set, take};
-ghost use Rattle.rows.specs.Row.{gcdOf, gathered, unitRow, allWithin};
+ghost use Rattle.rows.specs.Row.{at, gcdOf, smallest, gathered, unitRow, allWithin};
 ghost use Rattle.rows.specs.Table.{rowsOf};
 ghost use Rattle.rules.specs.Elimination.{stepOf};
 ghost use Rattle.steps.specs.Shown.{tried};
@@ -16,49 +17,50 @@ pub enum Turning {
     TooFar,
 }
 
-// (c) for the way back: row k gains each row i as often as q says, and q's constant.
+// (c) for the way back: row k gains each row i as often as q says, and q's constant. It is worked on in place: q has 0 at column k, and
+// beyond the limit the table is not asked for.
 fn way_back(table: &mut [i64], n: usize, k: usize, q: &[i64]) -> bool
-    requires { ⌜ (length (now table) ≡ n * suc n) × (n ≤ 32) × (k < n) × (length (now q) ≡ suc n) × (allWithin (now table) ≡ true) × (allWithin (now q) ≡ true) ⌝ }
+    requires { ⌜ (length (now table) ≡ n * suc n) × (n ≤ 32) × (k < n) × (length (now q) ≡ suc n) × (allWithin (now table) ≡ true) × (allWithin (now q) ≡ true) × (at (now q) k ≡ pos 0) ⌝ }
     ensures { λ r. ⌜ tried r (rowsOf (suc n) n (now (table .exit))) ≡ tried (allWithin (gathered (getD (rowsOf (suc n) n (now (table .entry))) k []) (now (q .entry)) (rowsOf (suc n) n (now (table .entry)) ++ unitRow (suc n) n ∷ []))) (set (rowsOf (suc n) n (now (table .entry))) k (gathered (getD (rowsOf (suc n) n (now (table .entry))) k []) (now (q .entry)) (rowsOf (suc n) n (now (table .entry)) ++ unitRow (suc n) n ∷ []))) ⌝ }
 {
     let w = n + 1;
+    in_place::gather_in(table, w, k, &q[..n]);
     let start = k * w;
     let end = start + w;
-    let mut row = [0i64; 33];
-    copying::copy(&mut row[..w], &table[start..end]);
-    tables::gather(&mut row[..w], &q[..n], table);
+    let last = start + n;
+    let z = table[last];
     let c = q[n];
-    row[n] = row[n] + c;
-    let fits = rows::all_within(&row[..w]);
-    if fits {
-        copying::copy(&mut table[start..end], &row[..w]);
-    }
-    fits
+    table[last] = z + c;
+    rows::all_within(&table[start..end])
 }
 
-// (c): the smallest coefficient of the first row, and its substitution put into all rows, the substitution and the way back.
+// (c): the substitution for column k, where the smallest coefficient of the first row stands, put into all rows, the substitution and the way
+// back. Once a number is beyond the limit, nothing more is put in.
 pub fn turn(
     rows: &mut [i64],
     substitution: &mut [i64],
     back: &mut [i64],
     count: usize,
     n: usize,
+    k: usize,
 ) -> Turning
     requires { ⌜ (length (now rows) ≡ count * suc n) × (1 ≤ count) × (length (now substitution) ≡ n * suc n) × (length (now back) ≡ n * suc n) × (n ≤ 32) ⌝ }
-    requires { ⌜ (allWithin (now rows) ≡ true) × (allWithin (now substitution) ≡ true) × (allWithin (now back) ≡ true) × (0 < gcdOf (take n (now rows))) ⌝ }
+    requires { ⌜ (allWithin (now rows) ≡ true) × (allWithin (now substitution) ≡ true) × (allWithin (now back) ≡ true) × (0 < gcdOf (take n (now rows))) × (k ≡ smallest (take n (now rows))) ⌝ }
     ensures { λ r. ⌜ turnedTables r n count (now (rows .exit)) (now (substitution .exit)) (now (back .exit)) ≡ tried (allWithin (listedTurn n (stepOf n (take (suc n) (now (rows .entry)))) (rowsOf (suc n) count (now (rows .entry))) (rowsOf (suc n) n (now (substitution .entry))) (rowsOf (suc n) n (now (back .entry))))) (turned n (stepOf n (take (suc n) (now (rows .entry)))) (rowsOf (suc n) count (now (rows .entry))) (rowsOf (suc n) n (now (substitution .entry))) (rowsOf (suc n) n (now (back .entry)))) ⌝ }
 {
     let w = n + 1;
     let mut q = [0i64; 33];
-    let k = coefficients::smallest(&rows[..n]);
     let a = rows[k];
     coefficients::quotients(&mut q[..w], &rows[..w], a);
     q[k] = 0;
-    let first = tables::put_in(rows, count, w, k, &q[..w]);
-    let second = tables::put_in(substitution, n, w, k, &q[..w]);
-    let third = way_back(back, n, k, &q[..w]);
-    if first & second & third {
-        return Turning::Made { column: k, lead: a };
+    if !tables::put_in(rows, count, w, k, &q[..w]) {
+        return Turning::TooFar;
     }
-    Turning::TooFar
+    if !tables::put_in(substitution, n, w, k, &q[..w]) {
+        return Turning::TooFar;
+    }
+    if !way_back(back, n, k, &q[..w]) {
+        return Turning::TooFar;
+    }
+    Turning::Made { column: k, lead: a }
 }

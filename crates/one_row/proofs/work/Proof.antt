@@ -1,7 +1,7 @@
 -- `one_row::work` meets its contract: the row is done, or (a) reduces it, which may be refused; then (b) finds a conflict, or the steps
 -- of (c) and (d) begin. `Places` has what holds after the calls.
 use mathlib.Core.Path.{sym, _∙_}
-use Prim.Native.Nat.{suc, _+_, _≤_}
+use Prim.Native.Nat.{suc, _≤_}
 use native.Mathlib.Nat.{mul-le-mul}
 use native.Mathlib.Omega.{arith}
 use borrow.Author.Needs.{needs}
@@ -9,14 +9,14 @@ use lib.ListN.{take}
 use lib.Seq.{length-take-le}
 use Rattle.whole.specs.Limit.{W}
 use Rattle.whole.proofs.Taken.{back}
-use Rattle.rows.specs.Row.{at, smallest}
+use Rattle.rows.specs.Row.{at}
 use Rattle.rows.proofs.Bounded.{bounded-at, bounded-take}
 use Rattle.stepping.proofs.Turns.{tried-beyond}
-use Rattle.one_row.proofs.Works.{work-done, work-large, gcd-within, bound-small}
+use Rattle.one_row.proofs.Works.{work-done, work-large, gcd-within}
 use Rattle.one_row.proofs.Starts.{hand-within, goes-unmet, goes-steps}
 use Rattle.one_row.proofs.work.Statement.{statement}
 use Rattle.one_row.proofs.work.Tie as tie
-use Rattle.one_row.proofs.work.Proof.Places.{start, entry, hand, later, state, row-inside, multipliers-inside, row-length, row-within, gcd-is, nonzero, told, joined, rows-kept, multipliers-kept, coefficients-inside, coefficients-within, left, one}
+use Rattle.one_row.proofs.work.Proof.Places.{start, entry, hand, later, state, row-inside, multipliers-inside, row-length, row-within, gcd-is, nonzero, told, joined, rows-kept, multipliers-kept, coefficients-within, left, one}
 mod Places
 
 slice-reshare-prefix-gcd-of : tie.Need-slice-reshare-prefix-gcd-of
@@ -104,11 +104,11 @@ returns-2 c =
 over-requires : tie.Need-over-requires
 over-requires c κs = search needs
 
-slice-read-t34 : tie.Need-slice-read-t34
-slice-read-t34 c = omega (arith, joined (c .before .before .before) .some)
+slice-read-t33 : tie.Need-slice-read-t33
+slice-read-t33 c = omega (arith, joined (c .before .before .before) .some)
 
-mul-t35 : tie.Need-mul-t35
-mul-t35 c =
+mul-t34 : tie.Need-mul-t34
+mul-t34 c =
     let j = c .before .before .before in
     let a = start j .args in
     let x = j .if2 in
@@ -132,33 +132,22 @@ returns-3 c =
     let j = v .before in
     goes-unmet (joined j) (nonzero (j .before)) (state (start j)) (v .over .result) (left v) (c .before .if3 .taken)
 
-slice-reshare-prefix-most-steps : tie.Need-slice-reshare-prefix-most-steps
-slice-reshare-prefix-most-steps c = coefficients-inside (c .before .before)
-
-slice-aggregate-most-steps : tie.Need-slice-aggregate-most-steps
-slice-aggregate-most-steps c = let j = c .before .before .before in sym (length-take-le (start j .args .n) (j .if2 .rows) (coefficients-inside j))
-
-most-steps-requires : tie.Need-most-steps-requires
-most-steps-requires c κs = (coefficients-within (c .before .before .before), omega (arith, one (c .before)))
-
 stepping-requires : tie.Need-stepping-requires
 stepping-requires c κs =
-    let o = c .before .before .before .before .before .before .before in
-    let j = c .before .before .before .before .before .before .before .before .before .before .before in
+    let x = c .before .before .before .before .before .before .before in
+    let j = x .before .before in
     let s = start j in
     let z = joined j in
-    let row = take (s .args .n) (j .if2 .rows) in
-    let most : o .most-steps .result ≤ 64 = rw (o .most-steps .ensures) (bound-small _ (bounded-at W row (smallest row) (coefficients-within j))) in
-    ((z .working, s .pre .0 .1), (z .some, omega (arith, one (o .before .before)), most, s .pre .1 .1))
+    ((z .working, s .pre .0 .1), (z .some, omega (arith, one x), s .pre .1 .1))
 
 same-length-7 : tie.Need-same-length-7
-same-length-7 c = let p = c .before .before .before .before .before .before .before .before .before in omega (arith, p .stepping .kept .0, rows-kept (p .before .before .before .before .before .before .before .before .before .before .before .before))
+same-length-7 c = let p = c .before .before .before .before .before .before .before .before .before in omega (arith, p .stepping .kept .0, rows-kept (p .before .before .before .before .before .before .before .before .before .before))
 
 same-length-8 : tie.Need-same-length-8
-same-length-8 c = let p = c .before .before .before .before .before .before .before .before .before in omega (arith, p .stepping .kept .1 .0, multipliers-kept (p .before .before .before .before .before .before .before .before .before .before .before .before))
+same-length-8 c = let p = c .before .before .before .before .before .before .before .before .before in omega (arith, p .stepping .kept .1 .0, multipliers-kept (p .before .before .before .before .before .before .before .before .before .before))
 
 same-length-9 : tie.Need-same-length-9
-same-length-9 c = let p = c .before .before .before .before .before .before .before .before .before in omega (arith, p .stepping .kept .1 .1 .0, joined (p .before .before .before .before .before .before .before .before .before .before .before .before) .many)
+same-length-9 c = let p = c .before .before .before .before .before .before .before .before .before in omega (arith, p .stepping .kept .1 .1 .0, joined (p .before .before .before .before .before .before .before .before .before .before) .many)
 
 same-length-10 : tie.Need-same-length-10
 same-length-10 c = c .before .before .before .before .before .before .before .before .before .stepping .kept .1 .1 .1 .0
@@ -175,9 +164,9 @@ same-length-13 c = c .before .before .before .before .before .before .before .be
 returns-4 : tie.Need-returns-4
 returns-4 c =
     let p = c .before .before .before .before .before .before .before .before .before in
-    let o = p .before .before .before .before .before .before .before .before in
-    let j = p .before .before .before .before .before .before .before .before .before .before .before .before in
-    rw (p .stepping .ensures) (goes-steps (joined j) (nonzero (j .before)) (state (start j)) (o .most-steps .result) (one (o .before .before)) (o .most-steps .ensures))
+    let x = p .before .before .before .before .before .before .before .before in
+    let j = p .before .before .before .before .before .before .before .before .before .before in
+    rw (p .stepping .ensures) (goes-steps (joined j) (nonzero (j .before)) (state (start j)) (one x))
 
 pub work-spec : {M : Type 1} → statement M
 work-spec =
@@ -206,15 +195,12 @@ work-spec =
     same-length-3
     returns-2
     over-requires
-    slice-read-t34
-    mul-t35
+    slice-read-t33
+    mul-t34
     same-length-4
     same-length-5
     same-length-6
     returns-3
-    slice-reshare-prefix-most-steps
-    slice-aggregate-most-steps
-    most-steps-requires
     stepping-requires
     same-length-7
     same-length-8

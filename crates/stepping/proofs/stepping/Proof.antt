@@ -1,31 +1,29 @@
 -- `stepping::stepping` meets its contract: what a turn of its loop needs, and what it returns. `Places` has the invariant, and what
 -- holds after the calls of a turn.
-use mathlib.Core.Path.{refl, sym, _∙_}
+use mathlib.Core.Path.{sym, _∙_}
 use Prim.Native.Nat.{_-_}
 use native.Mathlib.Omega.{arith}
 use borrow.Author.Needs.{needs}
 use borrow.Author.Tests.{eq-eqb, ne-eqb}
 use lib.IntN.{natAbs}
+use lib.Seq.{length-take-le}
+use Rattle.whole.specs.Limit.{W}
+use Rattle.rows.proofs.Bounded.{bounded-take}
 use Rattle.stepping.proofs.Shuts.{too-far, shut-large, shut-passes}
 use Rattle.stepping.proofs.Going.{ahead-is, going-on, gone, column-small, lead-small}
 use Rattle.stepping.proofs.stepping.Statement.{statement}
 use Rattle.stepping.proofs.stepping.Tie as tie
-use Rattle.stepping.proofs.stepping.Proof.Places.{Inv-loop, μ-loop, head, entry, more, told, long-turned, turning, column, lead, stepped, lead-back, measured, found, shut-as, long-shut}
+use Rattle.stepping.proofs.stepping.Proof.Places.{Inv-loop, μ-loop, few, turned-inside, head, entry, more, told, long-turned, turning, column, lead, stepped, lead-back, measured, found, shut-as, long-shut}
+use Rattle.stepping.proofs.stepping.Proof.Begin.{slice-reshare-prefix-smallest, slice-aggregate-smallest, smallest-requires, mul-most-steps, slice-copy-out-most-steps, most-steps-requires, loop-holds}
 mod Places
-
-loop-holds : tie.Need-loop-holds Inv-loop μ-loop
-loop-holds c =
-    let s = c .before .before in (
-      record { rowsKept = refl; multipliersKept = refl; divisorsKept = refl; substitutionKept = refl; marksKept = refl; backKept = refl; reasonsKept = refl },
-      record { working = s .pre .0 .0; results = s .pre .0 .1; some = s .pre .1 .0; alive = s .pre .1 .1; budget = refl; same = refl },
-    )
+mod Begin
 
 turn-requires : tie.Need-turn-requires Inv-loop μ-loop
 turn-requires c κs =
     let g = c .before .before .before .before .loop .inv .1 in
     let w = g .working in
     let r = g .results in
-    ((w .rowsLong, g .some, r .substitutionLong, r .wayBackLong, r .small .1), (w .rowsWithin, r .substitutionWithin, r .wayBackWithin, g .alive))
+    ((w .rowsLong, g .some, r .substitutionLong, r .wayBackLong, r .small .1), (w .rowsWithin, r .substitutionWithin, r .wayBackWithin, g .alive, c .before .before .before .before .loop .inv .2))
 
 enum-told : tie.Need-enum-told Inv-loop μ-loop
 enum-told c = search needs
@@ -67,10 +65,8 @@ enum-known-found c = search needs
 magnitude-requires : tie.Need-magnitude-requires Inv-loop μ-loop
 magnitude-requires c κs =
     let f = c .before in
-    let t = turning f in
-    let l = head t .loop in
-    let z = t .turn .last in
-    let small = lead-small (l .inv .1) (more t) (column f) (lead f) (z .0) (z .1 .0) (z .1 .1 .0) (stepped f) in
+    let l = head (turning f) .loop in
+    let small = lead-small (stepped f) (l .inv .1 .working .rowsWithin) in
     rw (lead-back f) (omega arith)
 
 close-requires : tie.Need-close-requires Inv-loop μ-loop
@@ -80,20 +76,19 @@ close-requires c κs =
     let t = turning f in
     let l = head t .loop in
     let g = l .inv .1 in
-    let z = t .turn .last in
     let made = stepped f in
     let w = made .working in
     let r = made .results in
     rw (lead-back f) (
       (w .rowsLong, w .multipliersLong, g .some, r .marksLong, r .reasonsLong),
       (
-        (r .small .1, r .small .2, column-small g (more t) (column f) (lead f) (z .0) (z .1 .0) (z .1 .1 .0) made, omega (arith, measured q, c .before .before .before .before .before .if1 .taken), w .divisorsGood),
+        (r .small .1, r .small .2, column-small made (g .alive), omega (arith, measured q, c .before .before .before .before .before .if1 .taken), w .divisorsGood),
         (w .rowsWithin, w .multipliersWithin),
       ),
     )
 
-add-t38 : tie.Need-add-t38 Inv-loop μ-loop
-add-t38 c = let t = turning (found (c .before .before .before .before .before .before .before .before)) in omega (arith, head t .loop .inv .1 .budget, entry t .pre .1)
+add-t43 : tie.Need-add-t43 Inv-loop μ-loop
+add-t43 c = let t = turning (found (c .before .before .before .before .before .before .before .before)) in omega (arith, head t .loop .inv .1 .budget, entry t .pre .1, few (entry t))
 
 same-length-8 : tie.Need-same-length-8 Inv-loop μ-loop
 same-length-8 c = long-shut (c .before .before .before .before .before .before .before .before) .rowsKept
@@ -167,23 +162,37 @@ returns-3 c =
     (eq-eqb (natAbs (lead f)) 1 (sym (measured q) ∙ s .before .before .before .before .before .before .if1 .taken)) (y .0) (y .1 .0) (y .1 .1 .0) (y .1 .1 .1 .0) (y .1 .1 .1 .1 .0) (shut-as s _ (c .if2 .left))
     ∙ ahead-is g (more t)
 
+slice-reshare-prefix-smallest-2 : tie.Need-slice-reshare-prefix-smallest-2 Inv-loop μ-loop
+slice-reshare-prefix-smallest-2 c = turned-inside (turning (c .before .before .before))
+
+slice-aggregate-smallest-2 : tie.Need-slice-aggregate-smallest-2 Inv-loop μ-loop
+slice-aggregate-smallest-2 c =
+    let t = turning (c .before .before .before .before) in
+    sym (length-take-le (entry t .args .n) (t .turn .last .0) (turned-inside t))
+
+smallest-requires-2 : tie.Need-smallest-requires-2 Inv-loop μ-loop
+smallest-requires-2 c κs =
+    let f = c .before .before .before .before in
+    let t = turning f in
+    bounded-take W (entry t .args .n) (t .turn .last .0) (stepped f .working .rowsWithin)
+
 add-count : tie.Need-add-count Inv-loop μ-loop
-add-count c = let t = turning (c .before .before .before) in omega (arith, head t .loop .inv .1 .budget, entry t .pre .1)
+add-count c = let t = turning (c .before .before .before .before .before) in omega (arith, head t .loop .inv .1 .budget, entry t .pre .1, few (entry t))
 
 sub-left : tie.Need-sub-left Inv-loop μ-loop
-sub-left c = more (c .before .before .before .before .before .before .before .before)
+sub-left c = more (c .before .before .before .before .before .before .before .before .before .before)
 
 loop-less : tie.Need-loop-less Inv-loop μ-loop
-loop-less c = let h = more (c .before .before .before .before .before .before .before .before) in omega arith
+loop-less c = let h = more (c .before .before .before .before .before .before .before .before .before .before) in omega arith
 
 loop-again : tie.Need-loop-again Inv-loop μ-loop
 loop-again c =
-    let q = c .before in
+    let q = c .before .before .before in
     let f = q .before .before in
     let t = turning f in
     let l = head t .loop in
     let z = t .turn .last in
-    (long-turned t, going-on (l .inv .1) (more t) (column f) (lead f) (z .0) (z .1 .0) (z .1 .1 .0) (stepped f) (ne-eqb (natAbs (lead f)) 1 (λ e. c .if1 .left (measured q ∙ e))))
+    (long-turned t, going-on (l .inv .1) (more t) (column f) (lead f) (z .0) (z .1 .0) (z .1 .1 .0) (stepped f) (ne-eqb (natAbs (lead f)) 1 (λ e. c .before .before .if1 .left (measured q ∙ e))), c .smallest2 .ensures)
 
 same-length-22 : tie.Need-same-length-22 Inv-loop μ-loop
 same-length-22 c = c .before .loop .inv .0 .rowsKept
@@ -215,6 +224,12 @@ stepping-spec =
     (tie.spec
     Inv-loop
     μ-loop
+    slice-reshare-prefix-smallest
+    slice-aggregate-smallest
+    smallest-requires
+    mul-most-steps
+    slice-copy-out-most-steps
+    most-steps-requires
     loop-holds
     turn-requires
     enum-told
@@ -229,7 +244,7 @@ stepping-spec =
     enum-known-found
     magnitude-requires
     close-requires
-    add-t38
+    add-t43
     same-length-8
     same-length-9
     same-length-10
@@ -246,6 +261,9 @@ stepping-spec =
     same-length-20
     same-length-21
     returns-3
+    slice-reshare-prefix-smallest-2
+    slice-aggregate-smallest-2
+    smallest-requires-2
     add-count
     sub-left
     loop-less

@@ -110,9 +110,6 @@ multipliers-kept j =
     z .working .multipliersLong ∙ ap (λ (k : ℕ). k * s .args .m) (z .many) ∙ sym (s .pre .0 .0 .multipliersLong)
 
 -- the coefficients of the row
-pub coefficients-inside : (j : tie.Joined2) → start j .args .n ≤ length (j .if2 .rows)
-coefficients-inside j = omega (arith, row-inside (start j), rows-kept j)
-
 pub coefficients-within : (j : tie.Joined2) → allWithin (take (start j .args .n) (j .if2 .rows)) ≡ true
 coefficients-within j = bounded-take W (start j .args .n) (j .if2 .rows) (joined j .working .rowsWithin)
 

@@ -1,40 +1,88 @@
 -- The loop of `stepping::stepping`. At its head the tables are good and as long as at entry, and what is ahead of them is what was
 -- ahead at first. A turn makes one step: it is refused, it closes a column, or the next one is ahead.
-use mathlib.Core.Path.{_≡_, sym, ap, _∙_}
+use mathlib.Core.Path.{_≡_, sym, ap, _∙_, subst}
 use mathlib.Core.Bool.{Bool}
-use Prim.Native.Nat.{ℕ, suc, _+_, _<_}
+use Prim.Native.Nat.{ℕ, suc, _+_, _≤_, _<_}
 use native.Mathlib.Omega.{arith}
+use mathlib.Core.List.{List}
 use lib.ListN.{length, getD, take}
-use lib.IntN.{ℤ, natAbs}
+use lib.Seq.{getD-take, length-take-le}
+use lib.IntN.{ℤ, pos, natAbs}
 use mir.Syntax.{w64}
 use mir.Val.{toZ, ofZ}
 use mir.Facts.{toZ-ofZ}
+use Rattle.whole.specs.Limit.{W}
 use Rattle.whole.proofs.Bounds.{fits-abs}
-use Rattle.rows.specs.Row.{scaled, allWithin}
+use Rattle.whole.proofs.Taken.{back}
+use Rattle.rows.specs.Row.{at, smallest, scaled, allWithin}
 use Rattle.rows.specs.Table.{rowsOf}
+use Rattle.rows.proofs.Lists.{row-end}
+use Rattle.rows.proofs.Bounded.{bounded-at, bounded-take}
+use Rattle.rules.specs.Elimination.{stepBound}
 use Rattle.steps.specs.Shown.{tried, laterOf}
 use Rattle.turning.specs.Turned.{turned, listedTurn, turnedTables}
 use Rattle.closing.specs.Shut.{shut, listedShut, shutTables}
 use Rattle.turning.specs.declared.Turning.{Turning}
+use Rattle.stepping.specs.Worked.{boundOf}
 use Rattle.stepping.proofs.Made.{firstStep, Steps, made-steps}
+use Rattle.stepping.proofs.LeastBits.{least-found, least-alive, bound-is, bound-small}
 use Rattle.stepping.proofs.Going.{comesTo, Long, Going, lead-small}
 use Rattle.stepping.proofs.stepping.Tie as tie
 
 abbrev pub Inv-loop : tie.InvT-loop
-Inv-loop rows₀ multipliers₀ divisors₀ substitution₀ marks₀ back₀ reasons₀ n m most before left₀ count₀ rows multipliers divisors substitution marks back reasons left count =
+Inv-loop rows₀ multipliers₀ divisors₀ substitution₀ marks₀ back₀ reasons₀ n m before k₀ left₀ count₀ rows multipliers divisors substitution marks back reasons k left count =
+    let most = boundOf n (take (suc n) rows₀) in
     Long rows₀ multipliers₀ divisors₀ substitution₀ marks₀ back₀ reasons₀ rows multipliers divisors substitution marks back reasons
     × Going (comesTo n m most before rows₀ multipliers₀ divisors₀ substitution₀ marks₀ back₀ reasons₀) n m (before + most) rows multipliers divisors substitution marks back reasons left count
+    × (k ≡ smallest (take n rows))
 
 abbrev pub μ-loop : tie.MeasureT-loop
-μ-loop rows₀ multipliers₀ divisors₀ substitution₀ marks₀ back₀ reasons₀ n m most before left₀ count₀ rows multipliers divisors substitution marks back reasons left count =
+μ-loop rows₀ multipliers₀ divisors₀ substitution₀ marks₀ back₀ reasons₀ n m before k₀ left₀ count₀ rows multipliers divisors substitution marks back reasons k left count =
     left
+
+-- ---- before the loop: the column is one of the coefficients', the number there is small and not 0, and its bound is the first row's
+pub row-inside : (s : tie.Start Inv-loop μ-loop) → s .args .n ≤ length (s .args .rows .now)
+row-inside s = omega (arith, s .pre .0 .0 .rowsLong, row-end (length (s .args .divisors .now)) (suc (s .args .n)) 0 (s .pre .1 .0))
+
+pub coefficients : (s : tie.Start Inv-loop μ-loop) → length (take (s .args .n) (s .args .rows .now)) ≡ s .args .n
+coefficients s = length-take-le (s .args .n) (s .args .rows .now) (row-inside s)
+
+module _ (c : tie.After-smallest Inv-loop μ-loop) where
+  abbrev start : tie.Start Inv-loop μ-loop
+  start = c .before .before .before .before
+
+  abbrev rows : List ℤ
+  rows = start .args .rows .now
+
+  pub inside : c .smallest .result < start .args .n
+  inside = omega (arith, c .smallest .ensures, least-found (take (start .args .n) rows) (start .pre .1 .1), coefficients start)
+
+  pub nonzero : 0 < natAbs (at rows (c .smallest .result))
+  nonzero =
+      let n = start .args .n in
+      let h = subst (λ (k : ℕ). 0 < natAbs (at (take n rows) k)) (sym (c .smallest .ensures)) (least-alive (take n rows) (start .pre .1 .1)) in
+      subst (λ (z : ℤ). 0 < natAbs z) (getD-take n rows (c .smallest .result) (pos 0) inside) h
+
+-- as many steps are left as the bound of the first row
+pub whole-bound : (c : tie.After-most-steps Inv-loop μ-loop) → c .most-steps .result ≡ boundOf (start (c .before .before) .args .n) (take (suc (start (c .before .before) .args .n)) (rows (c .before .before)))
+whole-bound c =
+    let k = c .before .before in
+    let read = back (at (rows k) (k .smallest .result)) (c .before .most-steps-arg .given) in
+    c .most-steps .ensures ∙ ap (λ (z : ℤ). stepBound (natAbs z)) read
+    ∙ bound-is (start k .args .n) (rows k) (k .smallest .result) (k .smallest .ensures) (omega (arith, inside k))
+
+-- and they are few
+pub few : (s : tie.Start Inv-loop μ-loop) → boundOf (s .args .n) (take (suc (s .args .n)) (s .args .rows .now)) ≤ 64
+few s =
+    let row = take (suc (s .args .n)) (s .args .rows .now) in
+    bound-small _ (bounded-at W row (smallest (take (s .args .n) row)) (bounded-take W (suc (s .args .n)) (s .args .rows .now) (s .pre .0 .0 .rowsWithin)))
 
 -- ---- after `turn`: the tables at the loop's head are those before it
 abbrev pub head : tie.After-turn Inv-loop μ-loop → tie.At-loop Inv-loop μ-loop
 head t = t .before .before .before .before .before
 
 abbrev pub entry : tie.After-turn Inv-loop μ-loop → tie.Start Inv-loop μ-loop
-entry t = t .before .before .before .before .before .before .before .before
+entry t = t .before .before .before .before .before .before .before .before .before .before .before .before
 
 -- a step is left
 pub more : (t : tie.After-turn Inv-loop μ-loop) → 0 < head t .loop .left
@@ -59,6 +107,9 @@ long-turned t = let g = head t .loop .inv .0 in record {
   backKept = t .turn .kept .1 .1 .0 ∙ g .backKept;
   reasonsKept = g .reasonsKept;
 }
+
+pub turned-inside : (t : tie.After-turn Inv-loop μ-loop) → entry t .args .n ≤ length (t .turn .last .0)
+turned-inside t = omega (arith, row-inside (entry t), long-turned t .rowsKept)
 
 -- ---- where it made a step
 abbrev pub turning : tie.After-found Inv-loop μ-loop → tie.After-turn Inv-loop μ-loop
@@ -85,10 +136,7 @@ stepped f =
 -- the coefficient comes through the machine's words as it is
 pub lead-back : (f : tie.After-found Inv-loop μ-loop) → toZ w64 (ofZ w64 (lead f)) ≡ lead f
 lead-back f =
-    let t = turning f in
-    let l = head t .loop in
-    let z = t .turn .last in
-    let small = lead-small (l .inv .1) (more t) (column f) (lead f) (z .0) (z .1 .0) (z .1 .1 .0) (stepped f) in
+    let small = lead-small (stepped f) (head (turning f) .loop .inv .1 .working .rowsWithin) in
     toZ-ofZ (fits-abs (lead f) (omega arith))
 
 pub measured : (q : tie.After-magnitude Inv-loop μ-loop) → q .magnitude .result ≡ natAbs (lead (q .before .before))

@@ -1,0 +1,2 @@
+-- Laws of the work on one row of a table in place.
+pub mod InPlace
