@@ -1,13 +1,15 @@
 """The reader of PolyLib texts of document 01."""
 
+import re
+
 from elimination import (
     EQUATIONS_TABLE, INEQUALITIES_TABLE, LONGEST_TEXT, MOST_EQUATIONS, MOST_INEQUALITIES, MOST_VARIABLES, Refused,
     flat,
 )
 
 BLANKS = b" \t"
-DIGITS = b"0123456789"
-MOST_DIGITS = 10
+SOME_BLANKS = re.compile(rb"[ \t]*")
+SOME_DIGITS = re.compile(rb"[0-9]{0,10}")
 
 
 class Text:
@@ -28,16 +30,17 @@ class Text:
         """Refusal 6 at the place: the next byte fits nowhere, or the text stops too early."""
         raise Refused(6, self.place)
 
+    def skip(self, some):
+        """Over as many of the next bytes as match."""
+        self.place = some.match(self.data, self.place).end()
+
     def skip_blanks(self):
-        while self.next_in(BLANKS):
-            self.place += 1
+        self.skip(SOME_BLANKS)
 
     def skip_comment(self):
         """The rest of a comment line with its LF, or with the text's end."""
-        while not self.at_end() and not self.next_in(b"\n"):
-            self.place += 1
-        if not self.at_end():
-            self.place += 1
+        line_feed = self.data.find(b"\n", self.place)
+        self.place = len(self.data) if line_feed < 0 else line_feed + 1
 
 
 def line_end(text):
@@ -67,8 +70,7 @@ def find_line(text):
 def read_count(text):
     """1 to 10 digits. An 11th is left for the caller, who finds it bad."""
     start = text.place
-    while text.place - start < MOST_DIGITS and text.next_in(DIGITS):
-        text.place += 1
+    text.skip(SOME_DIGITS)
     if text.place == start:
         text.bad()
     return int(text.data[start:text.place])
