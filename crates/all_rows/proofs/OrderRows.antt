@@ -12,10 +12,9 @@ use lib.IntN.{ℤ, natAbs}
 use Rattle.whole.specs.Limit.{W}
 use Rattle.rows.specs.Row.{at, gcdOf, smallest, allWithin}
 use Rattle.rows.specs.Table.{flat}
-use Rattle.rows.proofs.Bounded.{bounded-at, bounded-take}
+use Rattle.rows.proofs.Bounded.{bounded-at, bounded-take, bounded-gcd}
 use Rattle.rules.specs.Elimination.{State, Carried, Step, reduced, gcdOfCoefficients, stepOf, putInto, stepped, oneMore, closed, reasonOf, corrected, listedA, listedC, listedD, stepBound, closing, stepping, fromB, work, Worked, passed, unmet, large}
 use Rattle.rules.proofs.Within.{Within, reduced-within}
-use Rattle.one_row.proofs.Works.{gcd-within}
 use Rattle.stepping.proofs.LeastBits.{bound-small}
 
 abbrev Bounds : ℕ → Worked → Type 0
@@ -71,7 +70,7 @@ from-bounds n e later s w = go (eqb (gcdOf (take n (e .row))) 1)
 
     go : (one : Bool) → Bounds (s .steps + 64) (elim one [ true ↦ stepping allWithin n most e later s | false ↦ unmet (e .multipliers) (e .divisor * gcdOf (take n (e .row))) (s .steps) ])
     go true = higher (s .steps + most) (s .steps + 64) (stepping allWithin n most e later s) (omega (arith, small)) (stepping-bounds n most e later s)
-    go false = mul-le-mul (w .most) (gcd-within (take n (e .row)) (bounded-take W n (e .row) (w .row)))
+    go false = mul-le-mul (w .most) (bounded-gcd W (take n (e .row)) (bounded-take W n (e .row) (w .row)))
 
 work-bounds : (n : ℕ) (e : Carried) (later : List Carried) (s : State) → Within e → Bounds (s .steps + 64) (work allWithin n e later s)
 unfolding work

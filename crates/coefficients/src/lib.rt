@@ -19,10 +19,10 @@ pub fn smallest(row: &[i64]) -> usize
     while 0 < i {
         i -= 1;
         let z = row[i];
-        let size = std::num::wrapping_sub_u64(whole::magnitude(z), 1);
-        if size <= least {
+        let less_one = std::num::wrapping_sub_u64(whole::magnitude(z), 1);
+        if less_one <= least {
             best = i;
-            least = size;
+            least = less_one;
         }
     }
     best

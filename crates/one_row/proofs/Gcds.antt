@@ -8,7 +8,7 @@ use native.Mathlib.Omega.{arith}
 use borrow.Author.Tests.{le-leb, leb-true, leb-false}
 use lib.Dec.{leb}
 use lib.ListN.{take}
-use lib.IntN.{ℤ, pos, natAbs, _*ℤ_}
+use lib.IntN.{ℤ, pos, natAbs}
 use Rattle.whole.specs.Gcd.{gcd}
 use Rattle.whole.specs.Quotient.{exactly}
 use Rattle.whole.proofs.Integers.{natAbs-*}

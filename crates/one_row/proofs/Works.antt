@@ -1,19 +1,17 @@
 -- The cases of the work on a row, before its steps.
-use mathlib.Core.Path.{_≡_, sym, ap, _∙_}
+use mathlib.Core.Path.{_≡_, ap, _∙_}
 use mathlib.Core.Bool.{Bool, true, false}
-use mathlib.Core.List.{List, [], _∷_, _++_}
-use Prim.Native.Nat.{ℕ, zero, suc, _*_, _≤_, _<_}
+use mathlib.Core.List.{List, [], _++_}
+use Prim.Native.Nat.{ℕ, suc, _*_, _<_}
 use native.Mathlib.Omega.{arith}
-use borrow.Author.Tests.{eq-eqb, ne-eqb, lt-leb, leb-true}
-use lib.Dec.{eqb, leb}
+use borrow.Author.Tests.{eq-eqb, ne-eqb, lt-leb}
+use lib.Dec.{eqb}
 use lib.ListN.{take}
 use lib.Seq.{take-take}
-use lib.IntN.{ℤ, natAbs}
+use lib.IntN.{ℤ}
 use Rattle.whole.specs.Limit.{W}
-use Rattle.whole.specs.Gcd.{gcd}
-use Rattle.whole.proofs.GcdLaws.{gcd-zero-l, gcd-le}
 use Rattle.rows.specs.Row.{gcdOf, allWithin}
-use Rattle.rows.proofs.Bounded.{and-left, and-right, bounded-nil, bounded-cons}
+use Rattle.rows.proofs.Bounded.{bounded-nil}
 use Rattle.steps.specs.Shown.{carry}
 use Rattle.rules.specs.Elimination.{Carried, State, gcdOfCoefficients, lowestTerms, byGcd, reduced, numbersOf, listedA, fromB, work, Worked, passed, unmet, large}
 use Rattle.stepping.specs.Worked.{stepsFrom}
@@ -61,18 +59,6 @@ unfolding listedA
 one-listed g e h = ap (λ (b : Bool). allWithin (elim b as (λ x. List ℤ) [ true ↦ numbersOf (byGcd g e) ++ numbersOf (lowestTerms (byGcd g e)) | false ↦ [] ])) (lt-leb 2 g h) ∙ bounded-nil W
 
 -- ---- what the code reads of a row
--- the gcd of numbers within the limit is within it
-pub gcd-within : (row : List ℤ) → allWithin row ≡ true → gcdOf row ≤ W
-unfolding gcdOf
-gcd-within [] h = omega arith
-gcd-within (a ∷ row) h =
-    let both = sym (bounded-cons W a row) ∙ h in
-    go (natAbs a) (leb-true (natAbs a) W (and-left (leb (natAbs a) W) (allWithin row) both)) (gcd-within row (and-right (leb (natAbs a) W) (allWithin row) both))
-  where
-    go : (x : ℕ) → x ≤ W → gcdOf row ≤ W → gcd x (gcdOf row) ≤ W
-    go zero l more = rw (gcd-zero-l (gcdOf row)) more
-    go (suc x) l more = omega (arith, gcd-le (suc x) (gcdOf row) (omega arith))
-
 module _ (n : ℕ) (rows : List ℤ) where
   -- the coefficients of the first row stand first in the table
   first-coefficients : take n (take (suc n) rows) ≡ take n rows

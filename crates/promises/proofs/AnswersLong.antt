@@ -7,25 +7,20 @@ use Prim.Native.Nat.{ℕ, zero, suc, _+_, _*_, _/_, _≤_}
 use native.Mathlib.Numerals.{add-one}
 use native.Mathlib.Omega.{arith}
 use lib.Dec.{eqb, leb}
-use lib.ListN.{length, set, take, replicate, length-append, length-replicate}
+use lib.ListN.{length, take, replicate, length-append, length-replicate}
 use lib.IntN.{ℤ, pos, natAbs}
 use Rattle.whole.specs.Gcd.{gcd}
 use Rattle.rows.specs.Row.{at, gcdOf, smallest, zeros, scaled}
 use Rattle.rows.specs.Table.{Wide}
-use Rattle.rows.proofs.Algebra.{length-less}
+use Rattle.rows.proofs.Algebra.{length-less, length-scaled}
+use Rattle.rows.proofs.TableLaws.{wide-set}
 use Rattle.rows.proofs.Divisors.{length-divided}
 use Rattle.rules.specs.Elimination.{State, Carried, Step, Worked, passed, unmet, large, Ended, finished, conflicting, tooLarge}
 use Rattle.rules.specs.Elimination.{stepOf, putInto, stepped, reasonOf, factor, lost, corrected, shared, lowestTerms, byGcd, closed, oneMore, reduced, gcdOfCoefficients}
 use Rattle.rules.specs.Elimination.{closing, stepping, stepBound, work, inOrder, run, start, carried}
 use Rattle.promises.proofs.Image.{length-unit}
-use Rattle.promises.proofs.Closes.{length-scaled}
 
--- a row of the right width put into a table, and a table of copies of it
-wide-set : (width : ℕ) (rows : List (List ℤ)) (k : ℕ) (row : List ℤ) → Wide width rows → length row ≡ width → Wide width (set rows k row)
-wide-set width [] k row w l = tt
-wide-set width (r ∷ rows) zero row w l = (l, w .1)
-wide-set width (r ∷ rows) (suc k) row w l = (w .0, wide-set width rows k row (w .1) l)
-
+-- a table of copies of a row of the right width
 wide-replicate : (width count : ℕ) (row : List ℤ) → length row ≡ width → Wide width (replicate count row)
 wide-replicate width zero row l = tt
 wide-replicate width (suc count) row l = (l, wide-replicate width count row l)

@@ -17,7 +17,8 @@ use Rattle.whole.proofs.BitLengthLaws.{bitLength-half}
 use Rattle.rows.specs.Row.{at, gcdOf}
 use Rattle.rules.specs.Elimination.{stepOf, putIn, stepBound}
 use Rattle.rules.proofs.RowInHand.{column-below, lead-alive, lead-nonzero, lead-least}
-use Rattle.rules.proofs.RowInHand.{coefficients-share, length-stepped, lead-stays, others-left, gcd-kept}
+use Rattle.rules.proofs.Lengths.{length-putIn}
+use Rattle.rules.proofs.RowInHand.{coefficients-share, lead-stays, others-left, gcd-kept}
 
 -- the row after its step, and the absolute value of its smallest coefficient
 abbrev next : ℕ → List ℤ → List ℤ
@@ -51,7 +52,7 @@ some : {n : ℕ} {row : List ℤ} → Coprime n row → 0 < gcdOf (take n row)
 some c = omega arith
 
 still : {n : ℕ} {row : List ℤ} → Coprime n row → Coprime n (next n row)
-still {n} {row} c = record { wide = length-stepped n row ∙ c .wide; whole = gcd-kept n row (c .wide) (some c) ∙ c .whole }
+still {n} {row} c = record { wide = length-putIn (stepOf n row) row ∙ c .wide; whole = gcd-kept n row (c .wide) (some c) ∙ c .whole }
 
 module _ (n : ℕ) (row : List ℤ) (c : Coprime n row) where
   above : 0 < size n row
@@ -65,7 +66,7 @@ module _ (n : ℕ) (row : List ℤ) (c : Coprime n row) where
   falls big = go (decLt (size n (next n row)) (size n row))
     where
       smaller : (i : ℕ) → i < n → i ≢ stepOf n row .column → natAbs (at (next n row) i) < size n row
-      smaller i b e = rw (others-left n row (c .wide) i b e) (remainder-small (at row i) (stepOf n row .lead) (lead-nonzero n row (some c)))
+      smaller i b e = rw (others-left n row i (omega (arith, c .wide)) e) (remainder-small (at row i) (stepOf n row .lead) (lead-nonzero n row (some c)))
 
       none-else : (size n (next n row) < size n row → ⊥) → (i : ℕ) → i < n → i ≢ stepOf n row .column → at (next n row) i ≡ pos 0
       none-else f i b e =
@@ -97,7 +98,7 @@ module _ (n : ℕ) (row : List ℤ) (c : Coprime n row) where
 
     left-is : at (next n (next n row)) (stepOf n row .column) ≡ left n row
     left-is =
-        others-left n (next n row) (still c .wide) (stepOf n row .column) (column-below n row (some c)) apart
+        others-left n (next n row) (stepOf n row .column) (omega (arith, column-below n row (some c), still c .wide)) apart
         ∙ ap (λ z. remainder z (stepOf n (next n row) .lead)) stays
 
     -- where it leaves something, that is less than half, and the third number is not larger

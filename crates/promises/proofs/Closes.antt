@@ -9,7 +9,7 @@ use native.Mathlib.Decide.{ℕ-discrete}
 use native.Mathlib.Omega.{arith}
 use borrow.Author.Tests.{eqb-true}
 use lib.Dec.{eqb}
-use lib.ListN.{length, getD, set, take, length-set, length-map}
+use lib.ListN.{length, getD, set, take, length-set}
 use lib.Seq.{getD-set-same, getD-set-other, getD-at, take-at}
 use lib.IntN.{ℤ, pos, natAbs, _+ℤ_, _-ℤ_, _*ℤ_}
 use Rattle.whole.specs.Gcd.{gcd}
@@ -17,15 +17,12 @@ use Rattle.whole.proofs.Integers.{natAbs-zero}
 use Rattle.whole.proofs.GcdLaws.{gcd-l, gcd-r}
 use Rattle.whole.proofs.Reify.{reify, ring}
 use Rattle.rows.specs.Row.{at, dot, values, scaled}
-use Rattle.rows.proofs.Algebra.{length-less, dot-less, dot-set-row, dot-scaled}
+use Rattle.rows.proofs.Algebra.{length-less, length-scaled, dot-less, dot-set-row, dot-scaled}
 use Rattle.rules.specs.Elimination.{Carried, lowestTerms, factor, lost, corrected}
+use Rattle.rules.proofs.Within.{quotient-least}
 use Rattle.promises.proofs.Image.{image}
 use Rattle.promises.proofs.Invariant.{Shut, Still, Sound, Carries, Settled, Standing, through}
-use Rattle.promises.proofs.Reduced.{quotient-least, carries-lowest}
-
-pub length-scaled : (c : ℤ) (row : List ℤ) → length (scaled c row) ≡ length row
-unfolding scaled
-length-scaled c row = length-map row (λ z. c *ℤ z)
+use Rattle.promises.proofs.Reduced.{carries-lowest}
 
 -- a·(b/e) = (a/e)·b for e = gcd a b
 crosswise : (a b : ℕ) → a * (b / gcd a b) ≡ a / gcd a b * b

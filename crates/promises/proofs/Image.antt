@@ -10,8 +10,10 @@ use lib.Seq.{getD-set-other, set-append-left, getD-at, drop-cons}
 use lib.IntN.{ℤ, pos, _+ℤ_}
 use Rattle.rows.specs.Row.{at, dot, values, zeros, unitRow, gathered}
 use Rattle.rows.specs.Table.{Wide}
-use Rattle.rows.proofs.Algebra.{dot-unit, dot-gathered, length-gathered, length-less, into, back, substitution}
+use Rattle.rows.proofs.Algebra.{dot-unit, dot-gathered, length-gathered, into, back, substitution}
+use Rattle.rows.proofs.TableLaws.{wide-set}
 use Rattle.rules.specs.Elimination.{Step, putIn, wayBackRow, counted, identity}
+use Rattle.rules.proofs.Lengths.{length-putIn}
 use Rattle.promises.specs.Meaning.{point}
 use Rattle.promises.proofs.Checked.{point-end}
 
@@ -107,10 +109,6 @@ wide-identity n = units-wide (suc n) (counted 0 n)
 
 -- ---- (c): the substitution's rows, and the way back's row k
 
-pub length-putIn : (t : Step) (row : List ℤ) → length (putIn t row) ≡ length row
-unfolding putIn
-length-putIn t row = length-less row (at row (t .column)) (t .quotients)
-
 wide-append : (width : ℕ) (rows : List (List ℤ)) (row : List ℤ) → Wide width rows → length row ≡ width → Wide width (rows ++ row ∷ [])
 wide-append width [] row w l = (l, tt)
 wide-append width (r ∷ rows) row w l = (w .0, wide-append width rows row (w .1) l)
@@ -119,11 +117,6 @@ wide-at : (width : ℕ) (rows : List (List ℤ)) (k : ℕ) → Wide width rows �
 wide-at width [] k w h = let z : ⊥ = omega arith in absurd z
 wide-at width (r ∷ rows) zero w h = w .0
 wide-at width (r ∷ rows) (suc k) w h = wide-at width rows k (w .1) (omega arith)
-
-wide-set : (width : ℕ) (rows : List (List ℤ)) (k : ℕ) (row : List ℤ) → Wide width rows → length row ≡ width → Wide width (set rows k row)
-wide-set width [] k row w l = tt
-wide-set width (r ∷ rows) zero row w l = (l, w .1)
-wide-set width (r ∷ rows) (suc k) row w l = (w .0, wide-set width rows k row (w .1) l)
 
 module _ (n : ℕ) (t : Step) (k-fits : t .column < n) (q-long : length (t .quotients) ≡ suc n) where
   -- what the substitution takes p to is what it took p's old parameters to

@@ -19,10 +19,10 @@ use Rattle.rows.specs.Table.{Wide}
 use Rattle.rows.proofs.Bounded.{and-left, and-right}
 use Rattle.rules.specs.Elimination.{State, finished, run}
 use Rattle.rules.specs.Inequalities.{sums, usedBy, tightenedRow, positive, alone, against}
-use Rattle.promises.specs.Meaning.{point, Meets, SatisfiesSet, parameters}
+use Rattle.promises.specs.Meaning.{Meets, SatisfiesSet, parameters}
 use Rattle.promises.proofs.Values.{dot-nothing}
-use Rattle.promises.proofs.Image.{length-values}
 use Rattle.promises.proofs.Runs.{Right, run-right}
+use Rattle.promises.proofs.Solved.{long-parameters}
 use Rattle.promises.proofs.Tight.{dot-point, length-tightened}
 use Rattle.promises.proofs.Tightened.{tightened}
 
@@ -86,7 +86,7 @@ not-against n row other y l k h f g e =
 module _ (fits : List ℤ → Bool) (n m : ℕ) (equations : List (List ℤ)) (l : length equations ≡ m) (w : Wide (suc n) equations) (s : State)
     (e : run fits n m equations ≡ finished s) where
   long : (x : List ℤ) → length (parameters s x) ≡ n
-  long x = length-values (s .wayBack) (point x) ∙ subst (Right n m equations) e (run-right fits n m equations w l) .0 .longY
+  long = long-parameters n m equations s (subst (Right n m equations) e (run-right fits n m equations w l))
 
   pub one-row : (inequality : List ℤ) → length inequality ≡ suc n → alone n (tightenedRow n s inequality) ≡ true → (x : List ℤ) → length x ≡ n
       → Meets x inequality → SatisfiesSet x equations (usedBy m s (sums n (s .substitution) inequality)) → ⊥

@@ -2,8 +2,8 @@
 use mathlib.Core.Path.{_≡_, refl, sym, ap, _∙_}
 use mathlib.Core.Bool.{Bool, true, false}
 use mathlib.Core.List.{List, [], _∷_}
-use Prim.Native.Nat.{ℕ, _*_, _/_, _<_, _∣_}
-use native.Mathlib.Nat.{mul-pos, pos-of-ne-zero, div-mul-cancel, zero-mul, dvd-trans}
+use Prim.Native.Nat.{ℕ, _*_, _/_, _<_}
+use native.Mathlib.Nat.{mul-pos, div-mul-cancel, dvd-trans}
 use native.Mathlib.Omega.{arith}
 use borrow.Author.Tests.{leb-false}
 use lib.Dec.{leb}
@@ -17,15 +17,12 @@ use Rattle.whole.proofs.Reify.{reify, ring}
 use Rattle.rows.specs.Row.{dot, values, gcdOf, divided}
 use Rattle.rows.proofs.Divisors.{gcdOf-divides, gcdOf-divided, at-divided, length-divided, dot-divided}
 use Rattle.rules.specs.Elimination.{Carried, shared, lowestTerms, byGcd, reduced}
+use Rattle.rules.proofs.Within.{quotient-least}
 use Rattle.promises.proofs.Image.{image}
 use Rattle.promises.proofs.Invariant.{Carries}
 
 pub pos-nonzero : {n : ℕ} → 0 < n → pos n ≡ pos 0 → ⊥
 pos-nonzero {n} h e = let z : n ≡ 0 = cc in omega arith
-
--- a divisor of a number above 0 leaves a quotient above 0
-pub quotient-least : (d g : ℕ) → g ∣ d → 0 < d → 0 < d / g
-quotient-least d g p h = pos-of-ne-zero (λ e. let z : 0 ≡ d = sym (zero-mul g) ∙ ap (λ x. x * g) (sym e) ∙ div-mul-cancel g p in omega arith)
 
 -- D·R ≡ S, with D = d·g and S = s·g, is d·R ≡ s
 cancelled : (D R S d s g : ℤ) → (g ≡ pos 0 → ⊥) → D *ℤ R ≡ S → d *ℤ g ≡ D → s *ℤ g ≡ S → d *ℤ R ≡ s

@@ -13,19 +13,20 @@ use lib.IntN.{ℤ, pos, negsuc, natAbs, _*ℤ_}
 use Rattle.whole.proofs.Reify.{reify, ring}
 use Rattle.rows.specs.Row.{at, dot, values, gcdOf, smallest}
 use Rattle.rows.specs.Table.{Wide}
-use Rattle.rows.proofs.Algebra.{dot-scaled}
+use Rattle.rows.proofs.Algebra.{length-scaled, dot-scaled}
 use Rattle.rows.proofs.Divisors.{gcdOf-zero}
 use Rattle.rules.specs.Checker.{refutes}
 use Rattle.rules.specs.Elimination.{State, Carried, Step, Worked, passed, unmet, large, Ended, finished, conflicting, tooLarge}
 use Rattle.rules.specs.Elimination.{stepOf, putInto, stepped, reasonOf, corrected, lost, lowestTerms, closed, oneMore, reduced, gcdOfCoefficients}
 use Rattle.rules.specs.Elimination.{closing, stepping, stepBound, fromB, work, inOrder, run, start, carried}
+use Rattle.rules.proofs.RowInHand.{lead-stays, gcd-kept}
 use Rattle.promises.proofs.Values.{dot-nothing, dot-single, nothing-left}
 use Rattle.promises.proofs.Image.{image}
 use Rattle.promises.proofs.Invariant.{Sound, Standing, inHand, changed, settle}
 use Rattle.promises.proofs.Stepped.{Apt, standing-put, sound-put}
-use Rattle.promises.proofs.InHand.{Live, alive-coefficient, step-apt, still-live, only-lead, kept}
+use Rattle.promises.proofs.InHand.{step-apt, only-lead}
 use Rattle.promises.proofs.Reduced.{carries-reduced, gcd-reduced}
-use Rattle.promises.proofs.Closes.{standing-corrected, sound-closed, length-scaled}
+use Rattle.promises.proofs.Closes.{standing-corrected, sound-closed}
 use Rattle.promises.proofs.Conflict.{row-refutes}
 use Rattle.promises.proofs.Begins.{sound-start, standing-start, length-carried}
 
@@ -124,13 +125,13 @@ module _ (fits : List ℤ → Bool) (n m : ℕ) (equations : List (List ℤ)) (w
         go false = tt
 
   -- ---- (c), again and again
-  stepping-good : (most : ℕ) (e : Carried) (later : List Carried) (s : State) → Held n m equations s (e ∷ later) → Live n (e .row)
+  stepping-good : (most : ℕ) (e : Carried) (later : List Carried) (s : State) → Held n m equations s (e ∷ later) → 0 < gcdOf (take n (e .row))
       → Good n m equations (length later) (stepping fits n most e later s)
   unfolding stepping stepped oneMore putInto
   stepping-good zero e later s held live = tt
   stepping-good (suc most) e later s held live =
       go (fits _) (eqb (natAbs (t .lead)) 1) refl
-      (stepping-good most (putInto t e) (map (putInto t) later) (oneMore (stepped n t s)) next (still-live n (e .row) wide live))
+      (stepping-good most (putInto t e) (map (putInto t) later) (oneMore (stepped n t s)) next (rw (gcd-kept n (e .row) wide live) live))
     where
       t : Step
       t = stepOf n (e .row)
@@ -163,7 +164,7 @@ module _ (fits : List ℤ → Bool) (n m : ℕ) (equations : List (List ℤ)) (w
           let one = eqb-true (natAbs (t .lead)) 1 z in
           shorter (closing fits n t (putInto t e) (map (putInto t) later) (stepped n t s))
           (closing-good t (putInto t e) (map (putInto t) later) (stepped n t s) next (apt .column) one
-          (kept n (e .row) wide live) (only-lead n (e .row) wide live one))
+          (lead-stays n (e .row) wide live) (only-lead n (e .row) wide live one))
       go true false z ih = shorter (stepping fits n most (putInto t e) (map (putInto t) later) (oneMore (stepped n t s))) ih
       go false b′ z ih = tt
 
@@ -182,7 +183,7 @@ module _ (fits : List ℤ → Bool) (n m : ℕ) (equations : List (List ℤ)) (w
       ])
       go true z =
           let h : 0 < gcdOf (take n (e .row)) = omega (arith, eqb-true (gcdOfCoefficients n e) 1 z) in
-          stepping-good most e later s held (alive-coefficient n (e .row) (inHand (held .1) .1 .wide) h)
+          stepping-good most e later s held h
       go false z =
           let (equation, c) = inHand (held .1) in
           row-refutes n m equations (s .substitution) (s .wayBack) (s .marks) (s .reasons) w (held .0) equation e c whole

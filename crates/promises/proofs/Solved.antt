@@ -41,7 +41,7 @@ module _ (n m : ℕ) (equations : List (List ℤ)) (s : State) (held : Held n m 
   long-substituted : (y : List ℤ) → length (substituted s y) ≡ n
   long-substituted y = length-values (s .substitution) (point y) ∙ sound .longX
 
-  long-parameters : (x : List ℤ) → length (parameters s x) ≡ n
+  pub long-parameters : (x : List ℤ) → length (parameters s x) ≡ n
   long-parameters x = length-values (s .wayBack) (point x) ∙ sound .longY
 
   -- the substitution and the way back take points to points

@@ -11,7 +11,8 @@ use Rattle.rows.specs.Row.{at, dot, values, less, quotients}
 use Rattle.rows.specs.Table.{Wide}
 use Rattle.rows.proofs.Algebra.{at-less, into, back, substitution, into-back, back-into}
 use Rattle.rules.specs.Elimination.{Step, Carried, putIn, putInto, wayBackRow}
-use Rattle.promises.proofs.Image.{image, length-image, length-putIn, image-put, image-back, wide-put, wide-back}
+use Rattle.rules.proofs.Lengths.{length-putIn}
+use Rattle.promises.proofs.Image.{image, length-image, image-put, image-back, wide-put, wide-back}
 use Rattle.promises.proofs.Invariant.{Shut, Still, Sound, Carries, Settled, Standing, through}
 
 -- what is asked of a step: an open column, no quotient there, and no quotient in a closed column

@@ -11,8 +11,8 @@ use native.Mathlib.Decide.{decLt}
 use native.Mathlib.Omega.{arith}
 use borrow.Author.Tests.{eqb-true, leb-true}
 use lib.Dec.{eqb, leb}
-use lib.ListN.{length, set, take, length-append, length-set, length-replicate, getD-replicate, drop-of-length-le, List·getD-append, List·getD-eq-default}
-use lib.Seq.{split-at, length-take-le}
+use lib.ListN.{length, set, take, length-append, length-set, length-replicate, getD-replicate, List·getD-append, List·getD-eq-default}
+use lib.Seq.{take-at, length-take-le}
 use lib.IntN.{ℤ, pos, negsuc, _+ℤ_, _-ℤ_, _*ℤ_}
 use lib.Signed.{_≤ℤ_, _<ℤ_}
 use Rattle.whole.specs.Gcd.{divides}
@@ -28,8 +28,10 @@ use Rattle.rows.proofs.Bounded.{and-left}
 use Rattle.rows.proofs.Divisors.{gcdOf-divides, length-divided, dot-divided}
 use Rattle.rules.specs.Elimination.{State}
 use Rattle.rules.specs.Inequalities.{sums, onlyOpen, tighten, tightenedRow}
+use Rattle.rules.proofs.Lengths.{length-onlyOpen}
 use Rattle.promises.specs.Meaning.{point, Meets, Closed, substituted}
-use Rattle.promises.proofs.Checked.{point-end}
+use Rattle.promises.proofs.Checked.{length-point, point-end}
+use Rattle.promises.proofs.Values.{dot-split}
 use Rattle.promises.proofs.Image.{length-values}
 use Rattle.promises.proofs.Invariant.{Shut}
 
@@ -44,9 +46,9 @@ dot-ends coefficients y c h = dot-append coefficients (c ∷ []) y (pos 1 ∷ []
 
 pub dot-point : (n : ℕ) (row y : List ℤ) → length row ≡ suc n → length y ≡ n → dot row (point y) ≡ dot (take n row) y +ℤ at row n
 dot-point n row y l h =
-    ap (λ r. dot r (point y))
-    (split-at row n (pos 0) (omega arith) ∙ ap (λ more. take n row ++ at row n ∷ more) (drop-of-length-le row {i = suc n} (omega arith)))
-    ∙ dot-ends (take n row) y (at row n) (length-take-le n row (omega arith) ∙ sym h)
+    dot-split n row (point y) l (length-point n y h)
+    ∙ ap₂ (λ u v. dot (take n row) u +ℤ at row n *ℤ v) (take-at y (pos 1 ∷ []) n h) (point-end n y h)
+    ∙ ring (dot (take n row) y ∷ at row n ∷ []) (search reify) (search reify) refl
 
 -- ---- the sums: the inequality at what the parameters stand for
 
@@ -79,12 +81,6 @@ module _ (n : ℕ) (substitution : List (List ℤ)) (inequality : List ℤ) wher
       x = values substitution (point y)
 
 -- ---- closed columns set to zero
-
-length-open : (marks : List ℕ) (row : List ℤ) → length (onlyOpen marks row) ≡ length row
-unfolding onlyOpen
-length-open [] row = refl
-length-open (mark ∷ marks) [] = refl
-length-open (mark ∷ marks) (a ∷ row) = ap suc (length-open marks row)
 
 -- which changes no value where each closed column has nothing to add
 dot-open : (marks : List ℕ) (row p : List ℤ) → ((c : ℕ) → Shut marks c → at row c *ℤ at p c ≡ pos 0) → dot (onlyOpen marks row) p ≡ dot row p
@@ -179,7 +175,7 @@ module _ (n : ℕ) (s : State) (inequality : List ℤ) where
 
   length-row : length (onlyOpen (s .marks) row) ≡ suc n
   unfolding row
-  length-row = length-open (s .marks) row ∙ length-sums n (s .substitution) inequality
+  length-row = length-onlyOpen (s .marks) row ∙ length-sums n (s .substitution) inequality
 
   pub length-tightened : length (tightenedRow n s inequality) ≡ suc n
   unfolding tightenedRow row

@@ -21,7 +21,7 @@ use Rattle.rules.specs.Checker.{dividesAll}
 
 -- ---- the coefficients and the constant
 
-dot-split : (n : ℕ) (row x : List ℤ) → length row ≡ suc n → length x ≡ suc n → dot row x ≡ dot (take n row) (take n x) +ℤ at row n *ℤ at x n
+pub dot-split : (n : ℕ) (row x : List ℤ) → length row ≡ suc n → length x ≡ suc n → dot row x ≡ dot (take n row) (take n x) +ℤ at row n *ℤ at x n
 unfolding dot
 dot-split n [] x l h = absurd (suc-ne-zero n (sym l))
 dot-split n (a ∷ row) [] l h = absurd (suc-ne-zero n (sym h))

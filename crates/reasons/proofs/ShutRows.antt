@@ -1,5 +1,5 @@
 -- c times a row: from column i on, as a loop meets it, and how far from 0 it gets where c is 1, 0 or -1.
-use mathlib.Core.Path.{_≡_, refl, ap}
+use mathlib.Core.Path.{_≡_, refl}
 use mathlib.Core.Bool.{true}
 use mathlib.Core.List.{List, [], _∷_}
 use Prim.Native.Nat.{ℕ, zero, suc, _+_, _≤_, _<_}
@@ -20,11 +20,6 @@ scaled-none c row i h = rw (drop-of-length-le row h)
 pub scaled-more : (c : ℤ) (row : List ℤ) (i : ℕ) → i < length row → scaled c (drop i row) ≡ (c *ℤ at row i) ∷ scaled c (drop (i + 1) row)
 unfolding scaled
 scaled-more c row i h = rw (tail-at row i (pos 0) h)
-
-pub length-scaled : (c : ℤ) (row : List ℤ) → length (scaled c row) ≡ length row
-unfolding scaled
-length-scaled c [] = refl
-length-scaled c (a ∷ row) = ap suc (length-scaled c row)
 
 at-scaled : (c : ℤ) (row : List ℤ) (i : ℕ) → at (scaled c row) i ≡ c *ℤ at row i
 unfolding scaled

@@ -4,7 +4,7 @@ use mathlib.Core.List.{List, [], _∷_, _++_}
 use Prim.Native.Nat.{ℕ, zero, suc, _≤_, _<_}
 use native.Mathlib.Nat.{not-suc-le-zero, le-of-suc-le-suc, suc-inj}
 use native.Mathlib.Omega.{arith}
-use lib.ListN.{length, set, length-replicate, getD-replicate}
+use lib.ListN.{length, set, length-map, length-replicate, getD-replicate}
 use lib.Seq.{set-set, set-getD, getD-set-same}
 use lib.IntN.{ℤ, pos, negℤ, _+ℤ_, _-ℤ_, _*ℤ_, +ℤ-idl, +ℤ-idr}
 use Rattle.whole.proofs.Reify.{reify, ring}
@@ -82,6 +82,10 @@ dot-unit width i x h =
 
     zero-at : at (zeros width) i ≡ pos 0
     zero-at = getD-replicate width i (pos 0) (pos 0) h
+
+pub length-scaled : (c : ℤ) (row : List ℤ) → length (scaled c row) ≡ length row
+unfolding scaled
+length-scaled c row = length-map row (λ z. c *ℤ z)
 
 pub dot-scaled : (c : ℤ) (row x : List ℤ) → dot (scaled c row) x ≡ c *ℤ dot row x
 unfolding dot scaled

@@ -3,17 +3,20 @@ use mathlib.Core.Path.{_≡_, refl, sym, ap, _∙_}
 use mathlib.Core.Bool.{Bool, true, false, _&&_, and-assoc, cond}
 use mathlib.Core.List.{List, [], _∷_, _++_, map}
 use Prim.Native.Nat.{ℕ, zero, suc, _+_, _*_, _≤_, _<_, zero-le}
-use native.Mathlib.Nat.{le-trans, le-add-right, add-le-add, mul-le-mul}
+use native.Mathlib.Nat.{le-trans, le-add-right, add-le-add, suc-mul, mul-le-mul, zero-lt-suc}
 use native.Mathlib.Omega.{arith}
 use borrow.Author.Tests.{leb-true, le-leb}
 use lib.Dec.{leb, eqb, eqb·suc-suc, eqb·zero-suc}
 use lib.ListN.{length, take, drop, set, replicate, take-append-drop}
-use lib.IntN.{ℤ, pos, natAbs, _-ℤ_, _*ℤ_}
+use lib.IntN.{ℤ, pos, negℤ, natAbs, _-ℤ_, _*ℤ_}
 use Rattle.whole.specs.Limit.{W, within}
+use Rattle.whole.specs.Gcd.{gcd}
 use Rattle.whole.specs.Quotient.{quotient, exactly}
-use Rattle.whole.proofs.Integers.{natAbs-*, natAbs--}
+use Rattle.whole.proofs.Integers.{natAbs-neg, natAbs-*, natAbs--}
+use Rattle.whole.proofs.GcdLaws.{gcd-zero-l, gcd-le}
 use Rattle.whole.proofs.QuotientLaws.{quotient-le, exactly-le}
-use Rattle.rows.specs.Row.{at, less, quotients, divided, bounded, allWithin, firstBeyond}
+use Rattle.rows.specs.Row.{at, zeros, unitRow, gcdOf, less, quotients, divided, gathered, bounded, allWithin, firstBeyond}
+use Rattle.rows.specs.Table.{flat, rowsOf}
 
 -- ---- a conjunction that is true
 pub and-left : (a b : Bool) → a && b ≡ true → a ≡ true
@@ -80,6 +83,28 @@ unfolding bounded
 bounded-zeros B zero = refl
 bounded-zeros B (suc n) = and-both (le-leb 0 B zero-le) (bounded-zeros B n)
 
+pub bounded-unit : (B width i : ℕ) → 1 ≤ B → bounded B (unitRow width i) ≡ true
+unfolding zeros unitRow
+bounded-unit B width i h = bounded-set B (replicate width (pos 0)) i (pos 1) (bounded-zeros B width) h
+
+-- a table taken apart into rows
+pub bounded-rowsOf : (B w m : ℕ) (t : List ℤ) → bounded B t ≡ true → bounded B (flat (rowsOf w m t)) ≡ true
+unfolding flat rowsOf
+bounded-rowsOf B w zero t e = bounded-nil B
+bounded-rowsOf B w (suc m) t e =
+    bounded-append B (take w t) (flat (rowsOf w m (drop w t)))
+    ∙ and-both (bounded-take B w t e) (bounded-rowsOf B w m (drop w t) (bounded-drop B w t e))
+
+-- a common divisor is not above the first number that is not 0
+pub bounded-gcd : (B : ℕ) (row : List ℤ) → bounded B row ≡ true → gcdOf row ≤ B
+unfolding gcdOf
+bounded-gcd B [] e = zero-le
+bounded-gcd B (a ∷ row) e = go (natAbs a) (bounded-at B (a ∷ row) 0 e) (bounded-gcd B row (bounded-drop B 1 (a ∷ row) e))
+  where
+    go : (x : ℕ) → x ≤ B → gcdOf row ≤ B → gcd x (gcdOf row) ≤ B
+    go zero h k = rw (gcd-zero-l (gcdOf row)) k
+    go (suc x) h k = le-trans (gcd-le (suc x) (gcdOf row) (zero-lt-suc x)) h
+
 -- where no step leads further from 0
 bounded-map : (f : ℤ → ℤ) → ((z : ℤ) → natAbs (f z) ≤ natAbs z) → (B : ℕ) (row : List ℤ) → bounded B row ≡ true → bounded B (map f row) ≡ true
 unfolding bounded
@@ -108,6 +133,21 @@ bounded-less A C B (a ∷ row) q (b ∷ other) e h f =
     let product : natAbs (q *ℤ b) ≤ C * B = rw (natAbs-* q b) (mul-le-mul h second) in
     and-both (le-leb (natAbs (a -ℤ q *ℤ b)) (A + C * B) (le-trans (natAbs-- a (q *ℤ b)) (add-le-add first product)))
     (bounded-less A C B row q other (and-right (leb (natAbs a) A) (bounded A row) e) h (and-right (leb (natAbs b) B) (bounded B other) f))
+
+-- each row that is gathered adds at most the product of the bounds
+pub bounded-gathered : (A C B : ℕ) (row cs : List ℤ) (rows : List (List ℤ)) → bounded A row ≡ true → bounded C cs ≡ true
+    → bounded B (flat rows) ≡ true → bounded (A + length cs * (C * B)) (gathered row cs rows) ≡ true
+unfolding gathered flat
+bounded-gathered A C B row [] rows e f g = bounded-mono A (A + 0 * (C * B)) row (omega arith) e
+bounded-gathered A C B row (c ∷ cs) [] e f g = bounded-mono A (A + suc (length cs) * (C * B)) row (omega arith) e
+bounded-gathered A C B row (c ∷ cs) (r ∷ rows) e f g =
+    let both = sym (bounded-append B r (flat rows)) ∙ g in
+    let small : natAbs (negℤ c) ≤ C = omega (arith, natAbs-neg c, bounded-at C (c ∷ cs) 0 f) in
+    let rest : bounded C cs ≡ true = bounded-drop C 1 (c ∷ cs) f in
+    let step = bounded-less A C B row (negℤ c) r e small (and-left (bounded B r) (bounded B (flat rows)) both) in
+    let more = bounded-gathered (A + C * B) C B (less row (negℤ c) r) cs rows step rest (and-right (bounded B r) (bounded B (flat rows)) both) in
+    bounded-mono (A + C * B + length cs * (C * B)) (A + suc (length cs) * (C * B)) (gathered row (c ∷ cs) (r ∷ rows))
+    (omega (arith, suc-mul (length cs) (C * B))) more
 
 -- ---- all numbers are within the limit where none is found beyond it
 pub bounded-first : (row : List ℤ) → allWithin row ≡ eqb (firstBeyond row) (length row)

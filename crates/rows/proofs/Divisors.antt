@@ -1,19 +1,19 @@
--- The common divisors of a row, of its value, and the row divided by one of them.
+-- The common divisors of a row and of its value, the row divided by one of them, and the quotients of a row by a number.
 use mathlib.Core.Path.{_≡_, refl, sym, ap, ap₂, _∙_, subst}
 use mathlib.Core.List.{List, [], _∷_, _++_}
 use Prim.Native.Nat.{ℕ, zero, suc, _*_, _<_, _∣_, suc-le-suc}
 use native.Mathlib.Nat.{zero-lt-suc, dvd-trans, eq-zero-of-zero-dvd, dvd-antisymm, dvd-mul-left, eq-of-mul-eq-mul-left, mul-one, mul-comm, mul-dvd-mul-right}
 use native.Mathlib.Nat as NatL
-use lib.ListN.{length}
+use lib.ListN.{length, length-map}
 use lib.IntN.{ℤ, pos, natAbs, _+ℤ_, _*ℤ_, *ℤ-comm, zero-*ℤ}
 use Rattle.whole.specs.Gcd.{gcd}
-use Rattle.whole.specs.Quotient.{exactly}
+use Rattle.whole.specs.Quotient.{quotient, exactly}
 use Rattle.whole.proofs.Integers.{natAbs-zero, natAbs-*}
 use Rattle.whole.proofs.GcdLaws.{gcd-l, gcd-r, gcd-greatest, gcd-zero-l, gcd-assoc}
 use Rattle.whole.proofs.Divides.{_∣ℤ_, dvd-zero, dvd-mul, dvd-+}
-use Rattle.whole.proofs.QuotientLaws.{exactly-mul, exactly-zero}
+use Rattle.whole.proofs.QuotientLaws.{quotient-zero, exactly-mul, exactly-zero}
 use Rattle.whole.proofs.Reify.{reify, ring}
-use Rattle.rows.specs.Row.{at, dot, gcdOf, divided}
+use Rattle.rows.specs.Row.{at, dot, gcdOf, quotients, divided}
 
 pub gcdOf-divides : (row : List ℤ) (i : ℕ) → gcdOf row ∣ℤ at row i
 unfolding gcdOf
@@ -76,3 +76,15 @@ gcdOf-divided row h = one (gcdOf row) (gcdOf (divided (pos (gcdOf row)) row)) h 
         let d = gcdOf (divided (pos g) row) in
         let e : at (divided (pos g) row) i *ℤ pos g ≡ at row i = ap (λ z. z *ℤ pos g) (at-divided (pos g) row i) ∙ exactly-mul (at row i) g (gcdOf-divides row i) in
         record { dvd = subst (λ z. d * g ∣ natAbs z) e (rw (natAbs-* (at (divided (pos g) row) i) (pos g)) (mul-dvd-mul-right d (gcdOf-divides (divided (pos g) row) i .dvd) g)) }
+
+-- ---- the quotients
+
+pub at-quotients : (a : ℤ) (row : List ℤ) (i : ℕ) → at (quotients a row) i ≡ quotient (at row i) a
+unfolding quotients
+at-quotients a [] i = sym (quotient-zero a)
+at-quotients a (z ∷ row) zero = refl
+at-quotients a (z ∷ row) (suc i) = at-quotients a row i
+
+pub length-quotients : (a : ℤ) (row : List ℤ) → length (quotients a row) ≡ length row
+unfolding quotients
+length-quotients a row = length-map row (λ z. quotient z a)

@@ -3,13 +3,17 @@ use mathlib.Core.Path.{_≡_, refl}
 use mathlib.Core.Bool.{Bool, true, false, not, _&&_, _||_, cond}
 use mathlib.Core.List.{List, [], _∷_}
 use Prim.Native.Nat.{ℕ, zero, suc, _≤_, _<_, suc-le-suc}
-use native.Mathlib.Nat.{not-suc-le-zero, le-of-suc-le-suc, zero-lt-suc}
+use native.Mathlib.Nat.{not-suc-le-zero, le-of-suc-le-suc, zero-lt-suc, eq-zero-of-zero-dvd}
+use native.Mathlib.Decide.{decLt}
 use native.Mathlib.Omega.{arith}
 use borrow.Author.Tests.{leb-true, leb-false, eqb-true, eqb-false}
 use lib.Dec.{leb, eqb}
 use lib.ListN.{length}
-use lib.IntN.{ℤ, natAbs}
-use Rattle.rows.specs.Row.{at, leads, smallest}
+use lib.IntN.{ℤ, pos, natAbs}
+use Rattle.whole.proofs.Integers.{natAbs-zero}
+use Rattle.whole.proofs.Divides.{dvd-zero}
+use Rattle.rows.specs.Row.{at, gcdOf, leads, smallest}
+use Rattle.rows.proofs.Divisors.{gcdOf-greatest}
 
 -- what is known of the smallest: k is its column, or the length where every number is 0
 pub record Smallest (row : List ℤ) (k : ℕ) : Type 0 where
@@ -61,3 +65,22 @@ smallest-is (a ∷ row) = go (leads a (at row (smallest row))) (leading (natAbs 
     go : (t : Bool) → Leads (natAbs a) (natAbs (at row (smallest row))) t → Smallest row (smallest row) → Smallest (a ∷ row) (cond t 0 (suc (smallest row)))
     go true (ahead p q) s = here (smallest row) p q s
     go false (behind p) s = there (smallest row) p s
+
+-- ---- the smallest number of a row that is not all zero is not 0: else 0 would divide every number, and so the gcd
+pub smallest-nonzero : (row : List ℤ) → 0 < gcdOf row → 0 < natAbs (at row (smallest row))
+smallest-nonzero row h = go (decLt 0 (natAbs (at row (smallest row))))
+  where
+    all-zero : (0 < natAbs (at row (smallest row)) → ⊥) → (i : ℕ) → at row i ≡ pos 0
+    all-zero f i =
+        let none : 0 < natAbs (at row i) → ⊥ = λ p. f (smallest-is row .nonzero i p) in
+        natAbs-zero (at row i) (omega arith)
+
+    go : Dec (0 < natAbs (at row (smallest row))) → 0 < natAbs (at row (smallest row))
+    go (yes p) = p
+    go (no f) =
+        let z : gcdOf row ≡ 0 = eq-zero-of-zero-dvd (gcdOf-greatest row 0 (λ i l. rw (all-zero f i) dvd-zero)) in
+        let bad : ⊥ = omega arith in
+        absurd bad
+
+pub smallest-inside : (row : List ℤ) → 0 < gcdOf row → smallest row < length row
+smallest-inside row h = smallest-is row .within (smallest row) (smallest-nonzero row h)

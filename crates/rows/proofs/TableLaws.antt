@@ -27,6 +27,12 @@ module _ {A : Type 0} where
   rowsOf-flat w [] h = refl
   rowsOf-flat w (row ∷ rows) h = rw (take-at row (flat rows) w (h .0), drop-at row (flat rows) w (h .0), rowsOf-flat w rows (h .1))
 
+  -- a row of the right width put in place of another
+  pub wide-set : (w : ℕ) (rows : List (List A)) (k : ℕ) (row : List A) → Wide w rows → length row ≡ w → Wide w (set rows k row)
+  wide-set w [] k row h l = tt
+  wide-set w (r ∷ rows) zero row h l = (l, h .1)
+  wide-set w (r ∷ rows) (suc k) row h l = (h .0, wide-set w rows k row (h .1) l)
+
   -- ---- a table into rows: its first row, and what is left
   first-row : (w m : ℕ) (t : List A) → length t ≡ suc m * w → length (take w t) ≡ w
   first-row w m t e = length-take-le w t (omega (arith, suc-rows w m))

@@ -1,52 +1,22 @@
 -- Step (c) on the row in hand: its column is a coefficient's, the number there is not 0 and stays, every other number becomes its
 -- remainder by it. So the coefficients keep their common divisors.
-use mathlib.Core.Path.{_≡_, refl, sym, ap, _∙_, subst}
+use mathlib.Core.Path.{_≡_, refl, ap, _∙_, subst}
 use mathlib.Core.Logic.{_≢_}
 use mathlib.Core.List.{List, [], _∷_}
-use Prim.Native.Nat.{ℕ, zero, suc, _≤_, _<_, _∣_}
-use native.Mathlib.Decide.{decLt}
-use native.Mathlib.Nat.{dvd-antisymm, eq-zero-of-zero-dvd}
+use Prim.Native.Nat.{ℕ, suc, _≤_, _<_, _∣_}
+use native.Mathlib.Nat.{dvd-antisymm}
 use native.Mathlib.Omega.{arith}
-use lib.ListN.{length, take, length-map, length-take}
+use lib.ListN.{length, take, length-set, length-take}
 use lib.Seq.{getD-set-same, getD-set-other, getD-take}
 use lib.IntN.{ℤ, pos, natAbs, _-ℤ_, _*ℤ_, *ℤ-comm, -ℤ-+ℤ-cancel}
 use Rattle.whole.specs.Quotient.{quotient, remainder}
-use Rattle.whole.proofs.Integers.{natAbs-zero}
-use Rattle.whole.proofs.Divides.{_∣ℤ_, dvd-zero, dvd-mul, dvd-+, dvd-sub}
-use Rattle.whole.proofs.QuotientLaws.{quotient-zero}
+use Rattle.whole.proofs.Divides.{_∣ℤ_, dvd-mul, dvd-+, dvd-sub}
 use Rattle.whole.proofs.Reify.{reify, ring}
 use Rattle.rows.specs.Row.{at, gcdOf, quotients, smallest}
-use Rattle.rows.proofs.Algebra.{at-less, length-less}
-use Rattle.rows.proofs.Divisors.{gcdOf-divides, gcdOf-greatest}
-use Rattle.rows.proofs.SmallestLaws.{smallest-is}
+use Rattle.rows.proofs.Algebra.{at-less}
+use Rattle.rows.proofs.Divisors.{gcdOf-divides, gcdOf-greatest, at-quotients, length-quotients}
+use Rattle.rows.proofs.SmallestLaws.{smallest-is, smallest-nonzero, smallest-inside}
 use Rattle.rules.specs.Elimination.{stepOf, putIn}
-
--- ---- the quotients
-at-quotients : (a : ℤ) (row : List ℤ) (i : ℕ) → at (quotients a row) i ≡ quotient (at row i) a
-unfolding quotients
-at-quotients a [] i = sym (quotient-zero a)
-at-quotients a (z ∷ row) zero = refl
-at-quotients a (z ∷ row) (suc i) = at-quotients a row i
-
-length-quotients : (a : ℤ) (row : List ℤ) → length (quotients a row) ≡ length row
-unfolding quotients
-length-quotients a row = length-map row (λ z. quotient z a)
-
--- ---- the smallest number of a row that is not all zero is not 0: else 0 would divide every number, and so the gcd
-alive : (row : List ℤ) → 0 < gcdOf row → 0 < natAbs (at row (smallest row))
-alive row h = go (decLt 0 (natAbs (at row (smallest row))))
-  where
-    all-zero : (0 < natAbs (at row (smallest row)) → ⊥) → (i : ℕ) → at row i ≡ pos 0
-    all-zero f i =
-        let none : 0 < natAbs (at row i) → ⊥ = λ p. f (smallest-is row .nonzero i p) in
-        natAbs-zero (at row i) (omega arith)
-
-    go : Dec (0 < natAbs (at row (smallest row))) → 0 < natAbs (at row (smallest row))
-    go (yes p) = p
-    go (no f) =
-        let z : gcdOf row ≡ 0 = eq-zero-of-zero-dvd (gcdOf-greatest row 0 (λ i l. rw (all-zero f i) dvd-zero)) in
-        let bad : ⊥ = omega arith in
-        absurd bad
 
 -- ---- the gcd of the coefficients, without the constant
 module _ (n : ℕ) (row : List ℤ) where
@@ -63,11 +33,11 @@ module _ (n : ℕ) (row : List ℤ) where
 module _ (n : ℕ) (row : List ℤ) (h : 0 < gcdOf (take n row)) where
   pub column-below : stepOf n row .column < n
   unfolding stepOf
-  column-below = omega (arith, length-take n row, smallest-is (take n row) .within (smallest (take n row)) (alive (take n row) h))
+  column-below = omega (arith, length-take n row, smallest-inside (take n row) h)
 
   pub lead-alive : 0 < natAbs (stepOf n row .lead)
   unfolding stepOf
-  lead-alive = subst (λ z. 0 < natAbs z) (getD-take n row (smallest (take n row)) (pos 0) column-below) (alive (take n row) h)
+  lead-alive = subst (λ z. 0 < natAbs z) (getD-take n row (smallest (take n row)) (pos 0) column-below) (smallest-nonzero (take n row) h)
 
   pub lead-nonzero : stepOf n row .lead ≡ pos 0 → ⊥
   lead-nonzero e = let z : natAbs (stepOf n row .lead) ≡ 0 = ap natAbs e in omega (arith, lead-alive)
@@ -90,31 +60,41 @@ module _ (n : ℕ) (row : List ℤ) (h : 0 < gcdOf (take n row)) where
 
 -- ---- the row after the step
 module _ (n : ℕ) (row : List ℤ) where
-  pub length-stepped : length (putIn (stepOf n row) row) ≡ length row
-  unfolding putIn
-  length-stepped = length-less row (at row (stepOf n row .column)) (stepOf n row .quotients)
+  pub length-picked : length (stepOf n row .quotients) ≡ length row
+  unfolding stepOf
+  length-picked = let k = smallest (take n row) in length-set (quotients (at row k) row) k (pos 0) ∙ length-quotients (at row k) row
+
+  pub quotient-other : (i : ℕ) → i ≢ stepOf n row .column → at (stepOf n row .quotients) i ≡ quotient (at row i) (stepOf n row .lead)
+  unfolding stepOf
+  quotient-other i e =
+      let k = smallest (take n row) in
+      getD-set-other (quotients (at row k) row) k i (pos 0) (pos 0) e ∙ at-quotients (at row k) row i
+
+  changed : (i : ℕ) → i < length row → at (putIn (stepOf n row) row) i ≡ at row i -ℤ stepOf n row .lead *ℤ at (stepOf n row .quotients) i
+  unfolding putIn stepOf
+  changed i b = at-less row (at row (stepOf n row .column)) (stepOf n row .quotients) i b
+
+  pub others-left : (i : ℕ) → i < length row → i ≢ stepOf n row .column
+      → at (putIn (stepOf n row) row) i ≡ remainder (at row i) (stepOf n row .lead)
+  unfolding remainder
+  others-left i b e =
+      let a = stepOf n row .lead in
+      changed i b ∙ ap (λ z. at row i -ℤ a *ℤ z) (quotient-other i e)
+      ∙ ring (at row i ∷ a ∷ quotient (at row i) a ∷ []) (search reify) (search reify) refl
 
 module _ (n : ℕ) (row : List ℤ) (l : length row ≡ suc n) where
-  changed : (i : ℕ) → i < n → at (putIn (stepOf n row) row) i ≡ at row i -ℤ stepOf n row .lead *ℤ at (stepOf n row .quotients) i
-  unfolding putIn stepOf
-  changed i b = at-less row (at row (stepOf n row .column)) (stepOf n row .quotients) i (omega arith)
-
-  pub others-left : (i : ℕ) → i < n → i ≢ stepOf n row .column → at (putIn (stepOf n row) row) i ≡ remainder (at row i) (stepOf n row .lead)
-  unfolding stepOf remainder
-  others-left i b e =
+  pub quotient-here : 0 < gcdOf (take n row) → at (stepOf n row .quotients) (stepOf n row .column) ≡ pos 0
+  unfolding stepOf
+  quotient-here h =
       let k = smallest (take n row) in
       let a = at row k in
-      changed i b ∙ ap (λ z. at row i -ℤ a *ℤ z) (getD-set-other (quotients a row) k i (pos 0) (pos 0) e ∙ at-quotients a row i)
-      ∙ ring (at row i ∷ a ∷ quotient (at row i) a ∷ []) (search reify) (search reify) refl
+      getD-set-same (quotients a row) k (pos 0) (pos 0) (omega (arith, length-quotients a row, column-below n row h))
 
   pub lead-stays : 0 < gcdOf (take n row) → at (putIn (stepOf n row) row) (stepOf n row .column) ≡ stepOf n row .lead
   unfolding stepOf
   lead-stays h =
-      let k = smallest (take n row) in
-      let a = at row k in
-      changed k (column-below n row h)
-      ∙ ap (λ z. a -ℤ a *ℤ z)
-      (getD-set-same (quotients a row) k (pos 0) (pos 0) (omega (arith, length-quotients a row, column-below n row h)))
+      let a = at row (smallest (take n row)) in
+      changed n row (smallest (take n row)) (omega (arith, column-below n row h)) ∙ ap (λ z. a -ℤ a *ℤ z) (quotient-here h)
       ∙ ring (a ∷ []) (search reify) (search reify) refl
 
   -- ---- what divides the lead divides the same coefficients before the step and after it
@@ -123,12 +103,12 @@ module _ (n : ℕ) (row : List ℤ) (l : length row ≡ suc n) where
     taken = rw (*ℤ-comm (stepOf n row .lead) (at (stepOf n row .quotients) i)) (dvd-mul (at (stepOf n row .quotients) i) p)
 
     divides-after : d ∣ℤ at row i → d ∣ℤ at (putIn (stepOf n row) row) i
-    divides-after q = rw (changed i b) (dvd-sub q taken)
+    divides-after q = rw (changed n row i (omega arith)) (dvd-sub q taken)
 
     divides-before : d ∣ℤ at (putIn (stepOf n row) row) i → d ∣ℤ at row i
     divides-before q =
         let product = stepOf n row .lead *ℤ at (stepOf n row .quotients) i in
-        subst (λ z. d ∣ℤ z) (-ℤ-+ℤ-cancel (at row i) product) (dvd-+ (rw (changed i b) at q) taken)
+        subst (λ z. d ∣ℤ z) (-ℤ-+ℤ-cancel (at row i) product) (dvd-+ (rw (changed n row i (omega arith)) at q) taken)
 
   -- so the gcd before the step and the one after it divide each other
   pub gcd-kept : 0 < gcdOf (take n row) → gcdOf (take n (putIn (stepOf n row) row)) ≡ gcdOf (take n row)

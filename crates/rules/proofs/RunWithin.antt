@@ -4,12 +4,11 @@ use mathlib.Core.Bool.{true}
 use mathlib.Core.List.{List, [], _∷_, map}
 use Prim.Native.Nat.{ℕ, zero, suc}
 use native.Mathlib.Omega.{arith}
-use lib.ListN.{replicate}
-use lib.IntN.{ℤ, pos}
+use lib.IntN.{ℤ}
 use Rattle.whole.specs.Limit.{W}
-use Rattle.rows.specs.Row.{zeros, unitRow, allWithin}
+use Rattle.rows.specs.Row.{unitRow, allWithin}
 use Rattle.rows.specs.Table.{flat}
-use Rattle.rows.proofs.Bounded.{and-both, bounded-append, bounded-nil, bounded-zeros, bounded-set}
+use Rattle.rows.proofs.Bounded.{and-both, bounded-append, bounded-nil, bounded-unit}
 use Rattle.rules.specs.Elimination.{State, Carried, counted, identity, start, carried, work, Worked, passed, unmet, large, Ended, finished, conflicting, tooLarge, inOrder, run, elimination}
 use Rattle.rules.proofs.Within.{AllWithin, StateWithin, left-part, right-part, work-within}
 
@@ -37,24 +36,20 @@ order-within n (suc left) j (e ∷ later) s w v = go (work allWithin n e later s
     go (large steps) p again = tt
 
 -- ---- the start
-unit-within : (width i : ℕ) → allWithin (unitRow width i) ≡ true
-unfolding unitRow zeros
-unit-within width i = bounded-set W (replicate width (pos 0)) i (pos 1) (bounded-zeros W width) (omega arith)
-
 pub units-within : (width i count : ℕ) → allWithin (flat (map (unitRow width) (counted i count))) ≡ true
 unfolding counted flat
 units-within width i zero = bounded-nil W
-units-within width i (suc count) = bounded-append W (unitRow width i) (flat (map (unitRow width) (counted (suc i) count))) ∙ and-both (unit-within width i) (units-within width (suc i) count)
+units-within width i (suc count) = bounded-append W (unitRow width i) (flat (map (unitRow width) (counted (suc i) count))) ∙ and-both (bounded-unit W width i (omega arith)) (units-within width (suc i) count)
 
-start-within : (n m : ℕ) → StateWithin (start n m)
+pub start-within : (n m : ℕ) → StateWithin (start n m)
 unfolding start identity
 start-within n m = record { substitution = units-within (suc n) 0 n; wayBack = units-within (suc n) 0 n }
 
-carried-within : (m j : ℕ) (rows : List (List ℤ)) → allWithin (flat rows) ≡ true → AllWithin (carried m j rows)
+pub carried-within : (m j : ℕ) (rows : List (List ℤ)) → allWithin (flat rows) ≡ true → AllWithin (carried m j rows)
 unfolding carried flat
 carried-within m j [] w = tt
 carried-within m j (row ∷ rows) w =
-    (record { row = left-part row (flat rows) w; multipliers = unit-within m j; least = omega arith; most = omega arith }, carried-within m (suc j) rows (right-part row (flat rows) w))
+    (record { row = left-part row (flat rows) w; multipliers = bounded-unit W m j (omega arith); least = omega arith; most = omega arith }, carried-within m (suc j) rows (right-part row (flat rows) w))
 
 pub run-within : (n m : ℕ) (equations : List (List ℤ)) → allWithin (flat equations) ≡ true → (s : State) → elimination n m equations ≡ finished s → StateWithin s
 unfolding elimination run Left

@@ -2,7 +2,7 @@
 use mathlib.Core.Path.{_≡_, refl, sym, ap, _∙_}
 use mathlib.Core.Bool.{Bool, true, false, cond}
 use mathlib.Core.List.{List, [], _∷_, _++_}
-use Prim.Native.Nat.{ℕ, suc, _+_, _≤_, _<_, zero-le}
+use Prim.Native.Nat.{ℕ, _+_, _≤_, _<_, zero-le}
 use native.Mathlib.Omega.{arith}
 use borrow.Author.Tests.{eq-eqb, ne-eqb, le-leb}
 use lib.Dec.{eqb, leb}
@@ -46,12 +46,6 @@ unfolding onlyOpen
 open-end marks {row₀} {row} {goal} {p} h s =
     let rest : drop p row ≡ onlyOpen (drop p marks) (drop p row₀) = rw (drop-of-length-le marks h) (s .ahead) in
     sym (take-append-drop p row) ∙ ap (λ (l : List ℤ). take p row ++ l) rest ∙ s .done
-
-pub length-onlyOpen : (marks : List ℕ) (row : List ℤ) → length (onlyOpen marks row) ≡ length row
-unfolding onlyOpen
-length-onlyOpen [] row = refl
-length-onlyOpen (mark ∷ marks) [] = refl
-length-onlyOpen (mark ∷ marks) (a ∷ row) = ap suc (length-onlyOpen marks row)
 
 pub bounded-onlyOpen : (B : ℕ) (marks : List ℕ) (row : List ℤ) → bounded B row ≡ true → bounded B (onlyOpen marks row) ≡ true
 unfolding onlyOpen bounded

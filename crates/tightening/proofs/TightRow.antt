@@ -1,22 +1,18 @@
--- The three ways that `tighten` can go, the greatest common divisor being within the limit as the row is.
+-- The three ways that `tighten` can go, and the row in the code's form.
 use mathlib.Core.Path.{_≡_, ap, _∙_}
 use mathlib.Core.Bool.{Bool, true, false, not, _&&_, and-false}
 use mathlib.Core.List.{List, [], _∷_, _++_}
-use Prim.Native.Nat.{ℕ, zero, suc, _+_, _%_, _≤_, _<_, zero-le}
-use native.Mathlib.Nat.{le-trans, zero-lt-suc}
+use Prim.Native.Nat.{ℕ, suc, _+_, _%_, _≤_, _<_}
 use native.Mathlib.Omega.{arith}
-use borrow.Author.Tests.{eq-eqb, ne-eqb, leb-true, le-leb, lt-leb}
+use borrow.Author.Tests.{eq-eqb, ne-eqb, le-leb, lt-leb}
 use lib.Dec.{leb}
 use lib.ListN.{length, take, drop, set, drop-of-length-le}
 use lib.Seq.{set-at}
 use lib.IntN.{ℤ, pos, natAbs}
-use Rattle.whole.specs.Limit.{W}
-use Rattle.whole.specs.Gcd.{gcd, divides}
+use Rattle.whole.specs.Gcd.{divides}
 use Rattle.whole.specs.Quotient.{ceiling}
-use Rattle.whole.proofs.GcdLaws.{gcd-zero-l, gcd-le}
-use Rattle.rows.specs.Row.{at, gcdOf, divided, bounded, allWithin}
+use Rattle.rows.specs.Row.{at, gcdOf, divided}
 use Rattle.rows.proofs.Lists.{tail-at}
-use Rattle.rows.proofs.Bounded.{and-left, and-right}
 use Rattle.rules.specs.Inequalities.{tighten}
 
 -- ---- the row stays where the coefficients have no common divisor of 2 or more, or where it divides the constant: else it is new
@@ -45,14 +41,3 @@ pub put-last : (n : ℕ) (front row : List ℤ) (z : ℤ) → length front ≡ n
 put-last n front row z e h =
     let one : drop n row ≡ at row n ∷ [] = tail-at row n (pos 0) (omega arith) ∙ ap (λ (l : List ℤ). at row n ∷ l) (drop-of-length-le row {i = n + 1} (omega arith)) in
     ap (λ (l : List ℤ). set (front ++ l) n z) one ∙ set-at front (at row n) [] z n e
-
--- ---- a common divisor is not above the first number that is not 0
-pub gcd-within : (row : List ℤ) → allWithin row ≡ true → gcdOf row ≤ W
-unfolding gcdOf bounded
-gcd-within [] e = zero-le
-gcd-within (a ∷ row) e =
-    go (natAbs a) (leb-true (natAbs a) W (and-left (leb (natAbs a) W) (allWithin row) e)) (gcd-within row (and-right (leb (natAbs a) W) (allWithin row) e))
-  where
-    go : (x : ℕ) → x ≤ W → gcdOf row ≤ W → gcd x (gcdOf row) ≤ W
-    go zero h k = rw (gcd-zero-l (gcdOf row)) k
-    go (suc x) h k = le-trans (gcd-le (suc x) (gcdOf row) (zero-lt-suc x)) h

@@ -4,7 +4,7 @@ use mathlib.Core.Path.{_≡_, refl, sym, ap, ap₂, _∙_}
 use mathlib.Core.Bool.{true}
 use mathlib.Core.List.{List, [], _∷_, _++_}
 use Prim.Native.Nat.{ℕ, zero, suc, _+_, _*_, _≤_, _<_}
-use native.Mathlib.Nat.{suc-mul, mul-le-mul-right}
+use native.Mathlib.Nat.{mul-le-mul-right}
 use native.Mathlib.Numerals.{add-one}
 use native.Mathlib.Omega.{arith}
 use lib.ListN.{length, getD, take, set, replicate, length-take}
@@ -13,22 +13,15 @@ use lib.IntN.{ℤ, pos, negℤ, natAbs, _+ℤ_}
 use mir.Syntax.{w64}
 use mir.Val.{toZ, ofZ, SFits}
 use Rattle.whole.specs.Limit.{W}
-use Rattle.whole.proofs.Integers.{natAbs-neg}
 use Rattle.whole.proofs.Reify.{reify, ring}
 use Rattle.whole.proofs.Steps.{steps, read-by, fits-by}
-use Rattle.rows.specs.Row.{at, zeros, unitRow, less, gathered, bounded, allWithin}
+use Rattle.rows.specs.Row.{at, zeros, unitRow, less, gathered, allWithin}
 use Rattle.rows.specs.Table.{rowsOf, flat, rowAt, setRow}
-use Rattle.rows.proofs.Bounded.{and-left, and-right, bounded-append, bounded-at, bounded-take, bounded-drop, bounded-less, bounded-mono}
+use Rattle.rows.proofs.Bounded.{bounded-at, bounded-take, bounded-gathered}
 use Rattle.rows.proofs.Algebra.{length-gathered}
 use Rattle.rows.proofs.TableLaws.{length-rowAt, length-rowsOf, flat-rowsOf, row-of}
 use Rattle.tables.proofs.Multiples.{within-row}
 use Rattle.in_place.proofs.InPlace.{row-at, row-set, set-in-row}
-
--- ---- with 0 put at its place, row k is gathered no times
-pub put-zero : (l : List ℤ) (k : ℕ) → at (set l k (pos 0)) k ≡ pos 0
-put-zero [] k = refl
-put-zero (a ∷ l) zero = refl
-put-zero (a ∷ l) (suc k) = put-zero l k
 
 -- ---- the last of the rows that are gathered
 gathered-last : (row cs : List ℤ) (rows : List (List ℤ)) (c : ℤ) (other : List ℤ) → length cs ≡ length rows
@@ -58,21 +51,6 @@ less-set (a ∷ row) c (suc width) (suc n) h l =
 less-unit : (row : List ℤ) (c : ℤ) (width n : ℕ) → n < width → n < length row → less row (negℤ c) (unitRow width n) ≡ set row n (at row n +ℤ c)
 unfolding unitRow zeros
 less-unit row c width n h l = less-set row c width n h l
-
--- ---- each row that is gathered adds at most the product of the bounds
-bounded-gathered : (A C B : ℕ) (row cs : List ℤ) (rows : List (List ℤ)) → bounded A row ≡ true → bounded C cs ≡ true
-    → bounded B (flat rows) ≡ true → bounded (A + length cs * (C * B)) (gathered row cs rows) ≡ true
-unfolding gathered flat
-bounded-gathered A C B row [] rows e f g = bounded-mono A (A + 0 * (C * B)) row (omega arith) e
-bounded-gathered A C B row (c ∷ cs) [] e f g = bounded-mono A (A + suc (length cs) * (C * B)) row (omega arith) e
-bounded-gathered A C B row (c ∷ cs) (r ∷ rows) e f g =
-    let both = sym (bounded-append B r (flat rows)) ∙ g in
-    let small : natAbs (negℤ c) ≤ C = omega (arith, natAbs-neg c, bounded-at C (c ∷ cs) 0 f) in
-    let rest : bounded C cs ≡ true = bounded-drop C 1 (c ∷ cs) f in
-    let step = bounded-less A C B row (negℤ c) r e small (and-left (bounded B r) (bounded B (flat rows)) both) in
-    let more = bounded-gathered (A + C * B) C B (less row (negℤ c) r) cs rows step rest (and-right (bounded B r) (bounded B (flat rows)) both) in
-    bounded-mono (A + C * B + length cs * (C * B)) (A + suc (length cs) * (C * B)) (gathered row (c ∷ cs) (r ∷ rows))
-    (omega (arith, suc-mul (length cs) (C * B))) more
 
 -- ---- row k of the way back of n rows, without q's constant and with it
 abbrev pub gain : ℕ → ℕ → List ℤ → List ℤ → List ℤ

@@ -1,21 +1,17 @@
 -- Step (c) on tables: the column that it chooses, and what it makes of the rows, the substitution and the way back, each put to the test.
-use mathlib.Core.Path.{_≡_, refl, sym, ap, _∙_}
+use mathlib.Core.Path.{_≡_, sym, ap, _∙_}
 use mathlib.Core.Bool.{Bool, true, false, _&&_, and-false}
 use mathlib.Core.List.{List, [], _∷_, _++_, map}
-use Prim.Native.Nat.{ℕ, zero, suc, _*_, _≤_, _<_, zero-le}
-use native.Mathlib.Nat.{dvd-refl, eq-zero-of-zero-dvd}
+use Prim.Native.Nat.{ℕ, suc, _*_, _≤_, zero-le}
 use native.Mathlib.Omega.{arith}
 use lib.ListN.{length, take, set, length-map}
 use lib.Seq.{getD-take, take-take}
-use lib.IntN.{ℤ, pos, natAbs}
+use lib.IntN.{ℤ, pos}
 use Rattle.whole.specs.Limit.{W}
-use Rattle.whole.specs.Quotient.{quotient}
-use Rattle.rows.specs.Row.{at, gcdOf, smallest, quotients, allWithin}
+use Rattle.rows.specs.Row.{at, smallest, quotients, allWithin}
 use Rattle.rows.specs.Table.{rowsOf, flat, Wide}
 use Rattle.rows.proofs.Algebra.{length-less}
 use Rattle.rows.proofs.Bounded.{bounded-append, bounded-take, bounded-set, bounded-quotients}
-use Rattle.rows.proofs.Divisors.{gcdOf-greatest}
-use Rattle.rows.proofs.SmallestLaws.{smallest-is}
 use Rattle.rows.proofs.TableLaws.{length-rowsOf, wide-rowsOf, rowsOf-flat}
 use Rattle.tables.proofs.Multiples.{without}
 use Rattle.rules.specs.Elimination.{Step, stepOf, putIn, wayBackRow}
@@ -24,23 +20,6 @@ use Rattle.steps.specs.Shown.{tried}
 use Rattle.turning.specs.declared.Turning.the-variants.{Made, TooFar}
 use Rattle.turning.proofs.TurnedRows.{returned}
 use Rattle.steps.proofs.Attempts.{tried-fits, tried-made}
-
--- ---- a row whose gcd is not 0 has a number that is not 0, and so is the smallest
-pub lead-nonzero : (row : List ℤ) → 0 < gcdOf row → 0 < natAbs (at row (smallest row))
-lead-nonzero row h = go (natAbs (at row (smallest row))) refl
-  where
-    none : natAbs (at row (smallest row)) ≡ 0 → (i x : ℕ) → natAbs (at row i) ≡ x → natAbs (at row i) ≡ 0
-    none e i zero f = f
-    none e i (suc x) f = absurd (omega (arith, smallest-is row .nonzero i (omega arith)))
-
-    go : (x : ℕ) → natAbs (at row (smallest row)) ≡ x → 0 < natAbs (at row (smallest row))
-    go (suc x) e = omega arith
-    go zero e =
-        let zeros = gcdOf-greatest row 0 (λ i l. record { dvd = rw (none e i (natAbs (at row i)) refl) (dvd-refl 0) }) in
-        absurd (omega (arith, eq-zero-of-zero-dvd zeros))
-
-pub column-inside : (row : List ℤ) → 0 < gcdOf row → smallest row < length row
-column-inside row h = smallest-is row .within (smallest row) (lead-nonzero row h)
 
 -- ---- the step of a table's first row
 abbrev pub picked : ℕ → ℕ → List ℤ → List ℤ
@@ -52,10 +31,6 @@ stepAt k a q = record { column = k; lead = a; quotients = q }
 pub step-is : (n k : ℕ) (t : List ℤ) → k ≡ smallest (take n t) → k ≤ n → stepOf n (take (suc n) t) ≡ stepAt k (at t k) (picked n k t)
 unfolding stepOf
 step-is n k t e h = rw (take-take n (suc n) t (omega arith), ← e, getD-take (suc n) t k (pos 0) (omega arith))
-
-pub length-quotients : (a : ℤ) (row : List ℤ) → length (quotients a row) ≡ length row
-unfolding quotients
-length-quotients a row = length-map row (λ z. quotient z a)
 
 pub picked-within : (n k : ℕ) (t : List ℤ) → allWithin t ≡ true → allWithin (picked n k t) ≡ true
 picked-within n k t e =

@@ -15,12 +15,13 @@ use mir.Facts.{toZ-ofZ}
 use Rattle.whole.specs.Limit.{W}
 use Rattle.rows.specs.Row.{scaled, allWithin}
 use Rattle.rows.specs.Table.{rowsOf}
+use Rattle.rows.proofs.Algebra.{length-scaled}
 use Rattle.rows.proofs.Bounded.{bounded-take, bounded-drop}
 use Rattle.rules.specs.Elimination.{Carried, corrected}
 use Rattle.steps.specs.Shown.{tried, carriedOf, laterOf}
 use Rattle.closing.specs.Shut.{listedShut}
 use Rattle.steps.proofs.Attempts.{lent-length}
-use Rattle.reasons.proofs.ShutRows.{length-scaled, bounded-scaled}
+use Rattle.reasons.proofs.ShutRows.{bounded-scaled}
 use Rattle.closing.proofs.ShutTables.{rest-lent, rest-back, rows-behind, first-inside, divisors-first, divisors-behind, shut-none, shut-made}
 use Rattle.closing.proofs.close.Statement.{statement}
 use Rattle.closing.proofs.close.Tie as tie

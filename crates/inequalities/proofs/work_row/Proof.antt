@@ -10,8 +10,9 @@ use Rattle.whole.specs.Limit.{W}
 use Rattle.rows.specs.Row.{allWithin}
 use Rattle.rules.specs.Elimination.{State}
 use Rattle.rules.specs.Inequalities.{sums, usedBy, onlyOpen, tighten, tightenedRow}
+use Rattle.rules.proofs.Lengths.{length-onlyOpen}
 use Rattle.used.specs.Shown.{shownState}
-use Rattle.tightening.proofs.OpenColumns.{length-onlyOpen, bounded-onlyOpen}
+use Rattle.tightening.proofs.OpenColumns.{bounded-onlyOpen}
 use Rattle.inequalities.proofs.WorkedRows.{length-sums, row-worked, row-large}
 use Rattle.inequalities.proofs.work_row.Statement.{statement}
 use Rattle.inequalities.proofs.work_row.Tie as tie

@@ -10,9 +10,9 @@ use lib.Seq.{length-take-le}
 use Rattle.whole.specs.Limit.{W}
 use Rattle.whole.proofs.Taken.{back}
 use Rattle.rows.specs.Row.{at}
-use Rattle.rows.proofs.Bounded.{bounded-at, bounded-take}
+use Rattle.rows.proofs.Bounded.{bounded-at, bounded-take, bounded-gcd}
 use Rattle.stepping.proofs.Turns.{tried-beyond}
-use Rattle.one_row.proofs.Works.{work-done, work-large, gcd-within}
+use Rattle.one_row.proofs.Works.{work-done, work-large}
 use Rattle.one_row.proofs.Starts.{hand-within, goes-unmet, goes-steps}
 use Rattle.one_row.proofs.work.Statement.{statement}
 use Rattle.one_row.proofs.work.Tie as tie
@@ -77,7 +77,7 @@ reduce-requires c κs =
       h .multipliers,
       (h .least, h .most),
       omega (arith, c .before .before .before .if2 .taken),
-      rw (gcd-is (c .before .before .before .before .before)) (gcd-within (take (suc (a .n)) (a .rows .now)) (h .row)),
+      rw (gcd-is (c .before .before .before .before .before)) (bounded-gcd W (take (suc (a .n)) (a .rows .now)) (h .row)),
     )
 
 enum-known-kept : tie.Need-enum-known-kept
@@ -114,7 +114,7 @@ mul-t34 c =
     let x = j .if2 in
     let z = joined j in
     let h = hand-within (a .n) (a .m) (x .rows) (x .multipliers) (x .divisors) (z .working) (z .some) in
-    let g : c .before .before .over .result ≤ W = rw (left (c .before .before)) (gcd-within (take (a .n) (x .rows)) (coefficients-within j)) in
+    let g : c .before .before .over .result ≤ W = rw (left (c .before .before)) (bounded-gcd W (take (a .n) (x .rows)) (coefficients-within j)) in
     record { fits = omega (arith, mul-le-mul (h .most) g) }
 
 same-length-4 : tie.Need-same-length-4

@@ -15,9 +15,9 @@ use Rattle.whole.proofs.Order.{orders}
 use Rattle.whole.proofs.Bounds.{bits-le}
 use Rattle.whole.proofs.Taken.{back}
 use Rattle.rows.specs.Row.{at, gcdOf, divided}
-use Rattle.rows.proofs.Bounded.{bounded-at, bounded-take}
+use Rattle.rows.proofs.Bounded.{bounded-at, bounded-take, bounded-gcd}
 use Rattle.rows.proofs.Divisors.{length-divided}
-use Rattle.tightening.proofs.TightRow.{tight-small, tight-even, tight-new, put-last, gcd-within}
+use Rattle.tightening.proofs.TightRow.{tight-small, tight-even, tight-new, put-last}
 use Rattle.tightening.proofs.tighten.Statement.{statement}
 use Rattle.tightening.proofs.tighten.Tie as tie
 
@@ -82,7 +82,7 @@ signed-requires c κs =
     let s = o .before .before in
     let n = s .args .n in
     let row = s .args .row .now in
-    omega (arith, o .gcd-of .ensures, gcd-within (take n row) (bounded-take W n row (s .pre .1)))
+    omega (arith, o .gcd-of .ensures, bounded-gcd W (take n row) (bounded-take W n row (s .pre .1)))
 
 -- the divisor, as a signed number, is that of the coefficients
 divisor : (c : tie.After-signed) → let a = c .before .before .before .before .before .before .before .args in

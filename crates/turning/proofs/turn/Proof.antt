@@ -7,14 +7,14 @@ use native.Mathlib.Numerals.{add-one}
 use native.Mathlib.Omega.{arith}
 use borrow.Author.Needs.{needs}
 use borrow.Author.Tests.{not-true, not-false}
-use lib.IntN.{ℤ}
+use lib.IntN.{ℤ, pos}
 use lib.ListN.{take}
-use lib.Seq.{length-take-le}
+use lib.Seq.{length-take-le, getD-set-same}
 use Rattle.whole.specs.Limit.{W}
 use Rattle.whole.proofs.Taken.{back}
 use Rattle.rows.specs.Row.{at, quotients}
 use Rattle.rows.proofs.Bounded.{bounded-at, bounded-take}
-use Rattle.turning.proofs.TurnedRows.{put-zero}
+use Rattle.rows.proofs.Divisors.{length-quotients}
 use Rattle.turning.proofs.TurnedStep.{picked, step-is, rows-far, substitution-far, back-far, turned-made}
 use Rattle.turning.proofs.turn.Statement.{statement}
 use Rattle.turning.proofs.turn.Tie as tie
@@ -128,7 +128,10 @@ way-back-requires c κs =
     let s = entry z in
     let k = s .args .k in
     let t = s .args .rows .now in
-    let zero = ap (λ (l : List ℤ). at l k) (scratch-is z) ∙ put-zero (quotients (at t k) (take (suc (s .args .n)) t)) k in
+    let part = take (suc (s .args .n)) t in
+    let long = length-quotients (at t k) part ∙ length-take-le (suc (s .args .n)) t (first-row s) in
+    let put = getD-set-same (quotients (at t k) part) k (pos 0) (pos 0) (omega (arith, inside s, long)) in
+    let zero = ap (λ (l : List ℤ). at l k) (scratch-is z) ∙ put in
     (s .pre .0 .3, s .pre .0 .4, inside s, part-length z ∙ add-one (s .args .n), s .pre .1 .2, part-within z, zero)
 
 same-length-4 : tie.Need-same-length-4

@@ -1,5 +1,5 @@
 -- `whole::over` meets its contract: what is divided by 1 stays.
-use mathlib.Core.Path.{_≡_, sym, ap, _∙_}
+use mathlib.Core.Path.{sym, ap, _∙_}
 use native.Mathlib.Nat.{div-one}
 use borrow.Author.Needs.{needs}
 use Prim.Native.Nat.{_/_}

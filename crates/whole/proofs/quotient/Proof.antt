@@ -1,6 +1,6 @@
 -- `whole::quotient` meets its contract: by 1 and -1 it is the number and its opposite; else the divisor is not 0, all fits 32 bits, and
 -- the quotient is not further from 0 than the dividend.
-use mathlib.Core.Path.{_≡_, sym, ap, _∙_}
+use mathlib.Core.Path.{sym, ap, _∙_}
 use mir.Facts.{toZ-ofZ}
 use mir.Syntax.{w64}
 use mir.Val.{toZ}

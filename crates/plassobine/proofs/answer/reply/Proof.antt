@@ -6,7 +6,6 @@ use lib.ListN.{length}
 use Rattle.matrix.specs.declared.Reading.{Reading}
 use Rattle.matrix.specs.declared.Reading.the-variants.{System}
 use Rattle.matrix.proofs.Counts.{Counted}
-use Rattle.plassobine.specs.Program.{program}
 use Rattle.plassobine.proofs.Replied.{program-system, program-unread, counted-reading}
 use Rattle.plassobine.proofs.Rooms.{area, inside, front, front-rows}
 use borrow.Author.Needs.{needs}

@@ -14,8 +14,10 @@ use mir.Val.{toZ, ofZ}
 use Rattle.whole.proofs.Taken.{back}
 use Rattle.rows.specs.Row.{at, quotients, allWithin}
 use Rattle.rows.specs.Table.{flat}
+use Rattle.rows.proofs.Divisors.{length-quotients}
+use Rattle.rows.proofs.SmallestLaws.{smallest-inside, smallest-nonzero}
 use Rattle.steps.proofs.Attempts.{lent-length}
-use Rattle.turning.proofs.TurnedStep.{lead-nonzero, column-inside, picked, putRows, length-quotients, picked-within}
+use Rattle.turning.proofs.TurnedStep.{picked, putRows, picked-within}
 use Rattle.turning.proofs.turn.Tie as tie
 
 -- there is a first row
@@ -27,14 +29,14 @@ coefficients s = length-take-le (s .args .n) (s .args .rows .now) (omega (arith,
 
 -- the column is one of the coefficients', and what stands there is not 0
 pub inside : (s : tie.Start) → s .args .k < s .args .n
-inside s = omega (arith, s .pre .1 .4, column-inside (take (s .args .n) (s .args .rows .now)) (s .pre .1 .3), coefficients s)
+inside s = omega (arith, s .pre .1 .4, smallest-inside (take (s .args .n) (s .args .rows .now)) (s .pre .1 .3), coefficients s)
 
 pub nonzero : (s : tie.Start) → at (s .args .rows .now) (s .args .k) ≡ pos 0 → ⊥
 nonzero s e =
     let n = s .args .n in
     let t = s .args .rows .now in
     let k = s .args .k in
-    let lead : 0 < natAbs (at (take n t) k) = rw (s .pre .1 .4) (lead-nonzero (take n t) (s .pre .1 .3)) in
+    let lead : 0 < natAbs (at (take n t) k) = rw (s .pre .1 .4) (smallest-nonzero (take n t) (s .pre .1 .3)) in
     let none : natAbs (at (take n t) k) ≡ 0 = ap natAbs (getD-take n t k (pos 0) (inside s) ∙ e) in
     omega arith
 
