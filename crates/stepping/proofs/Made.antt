@@ -7,7 +7,7 @@ use native.Mathlib.Omega.{arith}
 use lib.ListN.{length, set, take}
 use lib.Seq.{take-take, length-take-le}
 use lib.IntN.{ℤ}
-use Rattle.rows.specs.Row.{gcdOf, allWithin}
+use Rattle.rows.specs.Row.{at, gcdOf, smallest, allWithin}
 use Rattle.rows.specs.Table.{rowsOf, flat}
 use Rattle.rows.proofs.Lists.{row-end}
 use Rattle.rows.proofs.TableLaws.{flat-rowsOf}
@@ -16,7 +16,7 @@ use Rattle.rules.proofs.Within.{left-part, right-part, set-within}
 use Rattle.rules.proofs.RowInHand.{gcd-kept}
 use Rattle.steps.specs.Shown.{tried, laterOf}
 use Rattle.turning.specs.Turned.{Turned, turned, listedTurn, turnedTables}
-use Rattle.turning.specs.declared.Turning.the-variants.{Made}
+use Rattle.turning.proofs.TurnedStep.{step-is}
 use Rattle.stepping.specs.Worked.{stateOf, inHand, Working3, Results4}
 use Rattle.stepping.proofs.Turns.{tried-true, tried-made, listed-turned, hand-turned, later-turned}
 
@@ -54,13 +54,13 @@ module _ (n m : ℕ) (rows multipliers : List ℤ) (divisors : List ℕ) (substi
   unfolding t count
   numbers = listedTurn n t (rowsOf (suc n) count rows) (rowsOf (suc n) n substitution) (rowsOf (suc n) n back)
 
-  module _ (column : ℕ) (lead : ℤ) (rows′ substitution′ back′ : List ℤ)
+  module _ (k : ℕ) (found : k ≡ smallest (take n rows)) (inside : k ≤ n) (rows′ substitution′ back′ : List ℤ)
       (rows-long : length rows′ ≡ length rows) (substitution-long : length substitution′ ≡ length substitution) (back-long : length back′ ≡ length back)
-      (e : turnedTables (Made column lead) n (length divisors) rows′ substitution′ back′
+      (e : tried true (turnedTables n (length divisors) rows′ substitution′ back′)
       ≡ tried (allWithin (listedTurn n (firstStep n rows) (rowsOf (suc n) (length divisors) rows) (rowsOf (suc n) n substitution) (rowsOf (suc n) n back)))
       (turned n (firstStep n rows) (rowsOf (suc n) (length divisors) rows) (rowsOf (suc n) n substitution) (rowsOf (suc n) n back))) where
     shown : Turned
-    shown = record { column = column; lead = lead; rows = rowsOf (suc n) (length divisors) rows′; substitution = rowsOf (suc n) n substitution′; wayBack = rowsOf (suc n) n back′ }
+    shown = turnedTables n (length divisors) rows′ substitution′ back′
 
     fit : allWithin numbers ≡ true
     unfolding numbers t count shown wanted
@@ -140,7 +140,7 @@ module _ (n m : ℕ) (rows multipliers : List ℤ) (divisors : List ℕ) (substi
         substitution-is
         back-is
 
-    pub made-steps : Steps n m rows multipliers divisors substitution marks back reasons column lead rows′ substitution′ back′
+    pub made-steps : Steps n m rows multipliers divisors substitution marks back reasons k (at rows k) rows′ substitution′ back′
     unfolding wanted t count shown
     made-steps = record {
       working = record { rowsLong = rows-long ∙ w .rowsLong; multipliersLong = w .multipliersLong; rowsWithin = rows-fit; multipliersWithin = w .multipliersWithin; divisorsGood = w .divisorsGood };
@@ -154,8 +154,8 @@ module _ (n m : ℕ) (rows multipliers : List ℤ) (divisors : List ℕ) (substi
         wayBackWithin = back-fit;
       };
       alive = alive′;
-      columnIs = ap (λ (x : Turned). x .column) is;
-      leadIs = ap (λ (x : Turned). x .lead) is;
+      columnIs = ap (λ (x : Step). x .column) (sym (step-is n k rows found inside));
+      leadIs = ap (λ (x : Step). x .lead) (sym (step-is n k rows found inside));
       listed = λ steps. ap allWithin (listed-turned n m (firstStep n rows) rows multipliers divisors (stateOf n m substitution marks back reasons steps) some) ∙ listed-fit;
       hand = hand-turned n m (firstStep n rows) rows rows′ multipliers divisors some rows-are;
       later = later-turned n m (firstStep n rows) rows rows′ multipliers divisors some rows-are;

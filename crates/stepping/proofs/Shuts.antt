@@ -13,7 +13,6 @@ use Rattle.rules.specs.Elimination.{Carried, stepped, oneMore, closed, reasonOf
 use Rattle.steps.specs.Shown.{tried, laterOf}
 use Rattle.turning.specs.Turned.{turned, listedTurn, turnedTables}
 use Rattle.closing.specs.Shut.{Shut, shut, listedShut, shutTables}
-use Rattle.turning.specs.declared.Turning.the-variants.{TooFar}
 use Rattle.stepping.specs.Worked.{stateOf, inHand}
 use Rattle.stepping.proofs.Turns.{tried-beyond, tried-true, tried-made, listed-turned, stepping-large, stepping-closes, stepping-more, closing-large, closing-passes}
 use Rattle.stepping.proofs.Made.{firstStep, Steps}
@@ -25,7 +24,7 @@ module _ (n m most count : ℕ) (rows multipliers : List ℤ) (divisors : List �
 
   -- a number listed by (c) is beyond the limit
   pub too-far : 1 ≤ length divisors → (rows′ substitution′ back′ : List ℤ)
-      → turnedTables TooFar n (length divisors) rows′ substitution′ back′
+      → tried false (turnedTables n (length divisors) rows′ substitution′ back′)
       ≡ tried (allWithin (listedTurn n (firstStep n rows) (rowsOf (suc n) (length divisors) rows) (rowsOf (suc n) n substitution) (rowsOf (suc n) n back)))
       (turned n (firstStep n rows) (rowsOf (suc n) (length divisors) rows) (rowsOf (suc n) n substitution) (rowsOf (suc n) n back))
       → large count ≡ ahead

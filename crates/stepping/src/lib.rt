@@ -8,7 +8,6 @@ ghost use Rattle.rows.specs.Row.{gcdOf};
 ghost use Rattle.rules.specs.Elimination.{stepBound};
 ghost use Rattle.stepping.specs.Worked.{stateOf, inHand, stepsFrom, workShown, Working3, Results4};
 ghost use Rattle.steps.specs.Shown.{laterOf};
-use turning::Turning;
 
 // The answer of the work on a row: passed, with the steps so far; a conflict with its D; a listed number too large.
 pub enum Working {
@@ -47,29 +46,15 @@ pub fn stepping(
     let mut left = most_steps(rows[k]);
     let mut count = before;
     while 0 < left {
-        let found = turning::turn(rows, substitution, back, divisors.len(), n, k);
-        match found {
-            Turning::TooFar => {
-                return Working::Large(count);
+        let lead = rows[k];
+        if !turning::turn(rows, substitution, back, divisors.len(), n, k) {
+            return Working::Large(count);
+        }
+        if whole::magnitude(lead) == 1 {
+            if closing::close(rows, multipliers, divisors, marks, reasons, n, m, k, lead) {
+                return Working::Passed(count + 1);
             }
-            Turning::Made { column, lead } => {
-                if whole::magnitude(lead) == 1 {
-                    if closing::close(
-                        rows,
-                        multipliers,
-                        divisors,
-                        marks,
-                        reasons,
-                        n,
-                        m,
-                        column,
-                        lead,
-                    ) {
-                        return Working::Passed(count + 1);
-                    }
-                    return Working::Large(count);
-                }
-            }
+            return Working::Large(count);
         }
         k = coefficients::smallest(&rows[..n]);
         count += 1;

@@ -1,5 +1,5 @@
 -- Step (c) on tables: the column that it chooses, and what it makes of the rows, the substitution and the way back, each put to the test.
-use mathlib.Core.Path.{_≡_, sym, ap, _∙_}
+use mathlib.Core.Path.{_≡_, refl, sym, ap, ap₂, _∙_}
 use mathlib.Core.Bool.{Bool, true, false, _&&_, and-false}
 use mathlib.Core.List.{List, [], _∷_, _++_, map}
 use Prim.Native.Nat.{ℕ, suc, _*_, _≤_, zero-le}
@@ -17,9 +17,8 @@ use Rattle.tables.proofs.Multiples.{without}
 use Rattle.rules.specs.Elimination.{Step, stepOf, putIn, wayBackRow}
 use Rattle.turning.specs.Turned.{Turned, turned, listedTurn, turnedTables}
 use Rattle.steps.specs.Shown.{tried}
-use Rattle.turning.specs.declared.Turning.the-variants.{Made, TooFar}
 use Rattle.turning.proofs.TurnedRows.{returned}
-use Rattle.steps.proofs.Attempts.{tried-fits, tried-made}
+use Rattle.steps.proofs.Attempts.{tried-same, tried-none, tried-fits, tried-made}
 
 -- ---- the step of a table's first row
 abbrev pub picked : ℕ → ℕ → List ℤ → List ℤ
@@ -77,30 +76,33 @@ module _ (n count k : ℕ) (a : ℤ) (q t u v : List ℤ) where
 
   module _ (t′ u′ v′ : List ℤ) where
     -- one that does not fit is enough
-    none : allWithin listed ≡ false → turnedTables TooFar n count t′ u′ v′ ≡ tried (allWithin listed) after
+    none : allWithin listed ≡ false → tried false (turnedTables n count t′ u′ v′) ≡ tried (allWithin listed) after
     none e = ap (λ (f : Bool). tried f after) (sym e)
 
-    pub rows-far : allWithin ofRows ≡ false → turnedTables TooFar n count t′ u′ v′ ≡ tried (allWithin listed) after
+    pub rows-far : allWithin ofRows ≡ false → tried false (turnedTables n count t′ u′ v′) ≡ tried (allWithin listed) after
     rows-far e = none (verdict ∙ ap (λ (b : Bool). b && (allWithin ofSubstitution && allWithin ofBack)) e)
 
-    pub substitution-far : allWithin ofSubstitution ≡ false → turnedTables TooFar n count t′ u′ v′ ≡ tried (allWithin listed) after
+    pub substitution-far : allWithin ofSubstitution ≡ false → tried false (turnedTables n count t′ u′ v′) ≡ tried (allWithin listed) after
     substitution-far e = none (verdict ∙ ap (λ (b : Bool). allWithin ofRows && (b && allWithin ofBack)) e ∙ and-false (allWithin ofRows))
 
     module _ (d : Bool) (third : tried d (rowsOf (suc n) n v′) ≡ tried (allWithin ofBack) (set (rowsOf (suc n) n v) k ofBack)) where
       fits : d ≡ allWithin ofBack
       fits = tried-fits d (allWithin ofBack) (rowsOf (suc n) n v′) (set (rowsOf (suc n) n v) k ofBack) third
 
-      pub back-far : d ≡ false → turnedTables TooFar n count t′ u′ v′ ≡ tried (allWithin listed) after
-      back-far e =
-          none
-          (verdict ∙ ap (λ (b : Bool). allWithin ofRows && (allWithin ofSubstitution && b)) (sym fits ∙ e)
-          ∙ ap (λ (b : Bool). allWithin ofRows && b) (and-false (allWithin ofSubstitution)) ∙ and-false (allWithin ofRows))
-
+      -- the last table decides once the other two fit
       pub turned-made : length t ≡ count * suc n → length u ≡ n * suc n → t′ ≡ ofRows → u′ ≡ ofSubstitution
-          → allWithin ofRows ≡ true → allWithin ofSubstitution ≡ true → d ≡ true
-          → turnedTables (Made k a) n count t′ u′ v′ ≡ tried (allWithin listed) after
+          → allWithin ofRows ≡ true → allWithin ofSubstitution ≡ true → tried d (turnedTables n count t′ u′ v′) ≡ tried (allWithin listed) after
       unfolding putIn wayBackRow
-      turned-made l m f g first second last =
-          let back = tried-made d (allWithin ofBack) (rowsOf (suc n) n v′) (set (rowsOf (suc n) n v) k ofBack) last third in
-          let all : allWithin listed ≡ true = rw (verdict, first, second, ← fits) last in
-          rw (f, g, rows-put n count k q t l, rows-put n n k q u m, back) (ap (λ (x : Bool). tried x after) (sym all))
+      turned-made l m f g first second = go d refl
+        where
+          all : d ≡ allWithin listed
+          all = fits ∙ sym (verdict ∙ ap₂ (λ (a b : Bool). a && (b && allWithin ofBack)) first second)
+
+          made : d ≡ true → turnedTables n count t′ u′ v′ ≡ after
+          made e =
+              let back = tried-made d (allWithin ofBack) (rowsOf (suc n) n v′) (set (rowsOf (suc n) n v) k ofBack) e third in
+              rw (f, g, rows-put n count k q t l, rows-put n n k q u m, back) refl
+
+          go : (b : Bool) → d ≡ b → tried d (turnedTables n count t′ u′ v′) ≡ tried (allWithin listed) after
+          go true e = tried-same all (made e)
+          go false e = tried-none (turnedTables n count t′ u′ v′) after all e

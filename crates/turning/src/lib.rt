@@ -11,12 +11,6 @@ ghost use Rattle.rules.specs.Elimination.{stepOf};
 ghost use Rattle.steps.specs.Shown.{tried};
 ghost use Rattle.turning.specs.Turned.{turned, listedTurn, turnedTables};
 
-// The column of a step and the coefficient there, or that a listed number is beyond the limit.
-pub enum Turning {
-    Made { column: usize, lead: i64 },
-    TooFar,
-}
-
 // (c) for the way back: row k gains each row i as often as q says, and q's constant. It is worked on in place: q has 0 at column k, and
 // beyond the limit the table is not asked for.
 fn way_back(table: &mut [i64], n: usize, k: usize, q: &[i64]) -> bool
@@ -35,7 +29,7 @@ fn way_back(table: &mut [i64], n: usize, k: usize, q: &[i64]) -> bool
 }
 
 // (c): the substitution for column k, where the smallest coefficient of the first row stands, put into all rows, the substitution and the way
-// back. Once a number is beyond the limit, nothing more is put in.
+// back. It answers whether every listed number is within the limit; once one is not, nothing more is put in.
 pub fn turn(
     rows: &mut [i64],
     substitution: &mut [i64],
@@ -43,10 +37,10 @@ pub fn turn(
     count: usize,
     n: usize,
     k: usize,
-) -> Turning
+) -> bool
     requires { ⌜ (length (now rows) ≡ count * suc n) × (1 ≤ count) × (length (now substitution) ≡ n * suc n) × (length (now back) ≡ n * suc n) × (n ≤ 32) ⌝ }
     requires { ⌜ (allWithin (now rows) ≡ true) × (allWithin (now substitution) ≡ true) × (allWithin (now back) ≡ true) × (0 < gcdOf (take n (now rows))) × (k ≡ smallest (take n (now rows))) ⌝ }
-    ensures { λ r. ⌜ turnedTables r n count (now (rows .exit)) (now (substitution .exit)) (now (back .exit)) ≡ tried (allWithin (listedTurn n (stepOf n (take (suc n) (now (rows .entry)))) (rowsOf (suc n) count (now (rows .entry))) (rowsOf (suc n) n (now (substitution .entry))) (rowsOf (suc n) n (now (back .entry))))) (turned n (stepOf n (take (suc n) (now (rows .entry)))) (rowsOf (suc n) count (now (rows .entry))) (rowsOf (suc n) n (now (substitution .entry))) (rowsOf (suc n) n (now (back .entry)))) ⌝ }
+    ensures { λ r. ⌜ tried r (turnedTables n count (now (rows .exit)) (now (substitution .exit)) (now (back .exit))) ≡ tried (allWithin (listedTurn n (stepOf n (take (suc n) (now (rows .entry)))) (rowsOf (suc n) count (now (rows .entry))) (rowsOf (suc n) n (now (substitution .entry))) (rowsOf (suc n) n (now (back .entry))))) (turned n (stepOf n (take (suc n) (now (rows .entry)))) (rowsOf (suc n) count (now (rows .entry))) (rowsOf (suc n) n (now (substitution .entry))) (rowsOf (suc n) n (now (back .entry)))) ⌝ }
 {
     let w = n + 1;
     let mut q = [0i64; 33];
@@ -54,13 +48,10 @@ pub fn turn(
     coefficients::quotients(&mut q[..w], &rows[..w], a);
     q[k] = 0;
     if !tables::put_in(rows, count, w, k, &q[..w]) {
-        return Turning::TooFar;
+        return false;
     }
     if !tables::put_in(substitution, n, w, k, &q[..w]) {
-        return Turning::TooFar;
+        return false;
     }
-    if !way_back(back, n, k, &q[..w]) {
-        return Turning::TooFar;
-    }
-    Turning::Made { column: k, lead: a }
+    way_back(back, n, k, &q[..w])
 }

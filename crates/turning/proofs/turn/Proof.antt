@@ -15,7 +15,7 @@ use Rattle.whole.proofs.Taken.{back}
 use Rattle.rows.specs.Row.{at, quotients}
 use Rattle.rows.proofs.Bounded.{bounded-at, bounded-take}
 use Rattle.rows.proofs.Divisors.{length-quotients}
-use Rattle.turning.proofs.TurnedStep.{picked, step-is, rows-far, substitution-far, back-far, turned-made}
+use Rattle.turning.proofs.TurnedStep.{picked, step-is, rows-far, substitution-far, turned-made}
 use Rattle.turning.proofs.turn.Statement.{statement}
 use Rattle.turning.proofs.turn.Tie as tie
 use Rattle.turning.proofs.turn.Proof.Places.{first-row, inside, nonzero, empty, lead, entry, scratch-is, part-inside, part-length, part-within, quotients-of, first, second, first-told, second-told}
@@ -135,51 +135,29 @@ way-back-requires c κs =
     (s .pre .0 .3, s .pre .0 .4, inside s, part-length z ∙ add-one (s .args .n), s .pre .1 .2, part-within z, zero)
 
 same-length-4 : tie.Need-same-length-4
-same-length-4 c = first (second (c .before .before)) .put-in .kept .0
+same-length-4 c = first (second (c .before)) .put-in .kept .0
 
 same-length-5 : tie.Need-same-length-5
-same-length-5 c = second (c .before .before) .put-in2 .kept .0
+same-length-5 c = second (c .before) .put-in2 .kept .0
 
 same-length-6 : tie.Need-same-length-6
-same-length-6 c = c .before .before .way-back .kept .0
+same-length-6 c = c .before .way-back .kept .0
 
 returns-3 : tie.Need-returns-3
 returns-3 c =
-    let p = c .before .before in
-    let z = quotients-of (first (second p)) in
-    let s = entry z in
-    let a = s .args in
-    let t = a .rows .now in
-    rw (step-is (a .n) (a .k) t (s .pre .1 .4) (omega (arith, inside s)))
-    (back-far (a .n) (a .count) (a .k) (at t (a .k)) (picked (a .n) (a .k) t) t (a .substitution .now) (a .back .now)
-    (first (second p) .put-in .last .0) (second p .put-in2 .last .0) (p .way-back .last .0)
-    (p .way-back .result) (rw (scratch-is z) at (p .way-back .ensures)) (not-true (p .way-back .result) (c .if3 .taken)))
-
-same-length-7 : tie.Need-same-length-7
-same-length-7 c = first (second (c .before .before)) .put-in .kept .0
-
-same-length-8 : tie.Need-same-length-8
-same-length-8 c = second (c .before .before) .put-in2 .kept .0
-
-same-length-9 : tie.Need-same-length-9
-same-length-9 c = c .before .before .way-back .kept .0
-
-returns-4 : tie.Need-returns-4
-returns-4 c =
-    let p = c .before .before in
+    let p = c .before in
     let z = quotients-of (first (second p)) in
     let s = entry z in
     let a = s .args in
     let t = a .rows .now in
     let one = first-told (first (second p)) in
     let two = second-told (second p) in
-    rw (step-is (a .n) (a .k) t (s .pre .1 .4) (omega (arith, inside s)), lead (z .before .before .before))
+    rw (step-is (a .n) (a .k) t (s .pre .1 .4) (omega (arith, inside s)))
     (turned-made (a .n) (a .count) (a .k) (at t (a .k)) (picked (a .n) (a .k) t) t (a .substitution .now) (a .back .now)
     (first (second p) .put-in .last .0) (second p .put-in2 .last .0) (p .way-back .last .0)
     (p .way-back .result) (rw (scratch-is z) at (p .way-back .ensures)) (s .pre .0 .0) (s .pre .0 .2) (one .0) (two .0)
     (sym (one .1) ∙ not-false (first (second p) .put-in .result) (second p .before .before .before .if1 .left))
-    (sym (two .1) ∙ not-false (second p .put-in2 .result) (p .before .before .before .if2 .left))
-    (not-false (p .way-back .result) (c .if3 .left)))
+    (sym (two .1) ∙ not-false (second p .put-in2 .result) (p .before .before .before .if2 .left)))
 
 pub turn-spec : {M : Type 1} → statement M
 turn-spec =
@@ -212,8 +190,4 @@ turn-spec =
     same-length-4
     same-length-5
     same-length-6
-    returns-3
-    same-length-7
-    same-length-8
-    same-length-9
-    returns-4)
+    returns-3)

@@ -5,28 +5,27 @@ use mathlib.Core.Bool.{Bool}
 use Prim.Native.Nat.{ℕ, suc, _+_, _≤_, _<_}
 use native.Mathlib.Omega.{arith}
 use mathlib.Core.List.{List}
+use borrow.Author.Tests.{not-false}
 use lib.ListN.{length, getD, take}
 use lib.Seq.{getD-take, length-take-le}
 use lib.IntN.{ℤ, pos, natAbs}
 use mir.Syntax.{w64}
 use mir.Val.{toZ, ofZ}
-use mir.Facts.{toZ-ofZ}
 use Rattle.whole.specs.Limit.{W}
-use Rattle.whole.proofs.Bounds.{fits-abs}
 use Rattle.whole.proofs.Taken.{back}
 use Rattle.rows.specs.Row.{at, smallest, scaled, allWithin}
 use Rattle.rows.specs.Table.{rowsOf}
 use Rattle.rows.proofs.Lists.{row-end}
 use Rattle.rows.proofs.Bounded.{bounded-at, bounded-take}
+use Rattle.rows.proofs.SmallestLaws.{smallest-inside, smallest-nonzero}
 use Rattle.rules.specs.Elimination.{stepBound}
 use Rattle.steps.specs.Shown.{tried, laterOf}
 use Rattle.turning.specs.Turned.{turned, listedTurn, turnedTables}
 use Rattle.closing.specs.Shut.{shut, listedShut, shutTables}
-use Rattle.turning.specs.declared.Turning.{Turning}
 use Rattle.stepping.specs.Worked.{boundOf}
 use Rattle.stepping.proofs.Made.{firstStep, Steps, made-steps}
-use Rattle.stepping.proofs.LeastBits.{least-found, least-alive, bound-is, bound-small}
-use Rattle.stepping.proofs.Going.{comesTo, Long, Going, lead-small}
+use Rattle.stepping.proofs.LeastBits.{bound-is, bound-small}
+use Rattle.stepping.proofs.Going.{comesTo, Long, Going}
 use Rattle.stepping.proofs.stepping.Tie as tie
 
 abbrev pub Inv-loop : tie.InvT-loop
@@ -55,12 +54,12 @@ module _ (c : tie.After-smallest Inv-loop μ-loop) where
   rows = start .args .rows .now
 
   pub inside : c .smallest .result < start .args .n
-  inside = omega (arith, c .smallest .ensures, least-found (take (start .args .n) rows) (start .pre .1 .1), coefficients start)
+  inside = omega (arith, c .smallest .ensures, smallest-inside (take (start .args .n) rows) (start .pre .1 .1), coefficients start)
 
   pub nonzero : 0 < natAbs (at rows (c .smallest .result))
   nonzero =
       let n = start .args .n in
-      let h = subst (λ (k : ℕ). 0 < natAbs (at (take n rows) k)) (sym (c .smallest .ensures)) (least-alive (take n rows) (start .pre .1 .1)) in
+      let h = subst (λ (k : ℕ). 0 < natAbs (at (take n rows) k)) (sym (c .smallest .ensures)) (smallest-nonzero (take n rows) (start .pre .1 .1)) in
       subst (λ (z : ℤ). 0 < natAbs z) (getD-take n rows (c .smallest .result) (pos 0) inside) h
 
 -- as many steps are left as the bound of the first row
@@ -77,20 +76,41 @@ few s =
     let row = take (suc (s .args .n)) (s .args .rows .now) in
     bound-small _ (bounded-at W row (smallest (take (s .args .n) row)) (bounded-take W (suc (s .args .n)) (s .args .rows .now) (s .pre .0 .0 .rowsWithin)))
 
+-- ---- at the loop's head: the column is one of the coefficients'
+abbrev pub begun : tie.At-loop Inv-loop μ-loop → tie.Start Inv-loop μ-loop
+begun l = l .before .before .before .before .before .before .before
+
+pub found-inside : (l : tie.At-loop Inv-loop μ-loop) → l .loop .k < begun l .args .n
+found-inside l =
+    let n = begun l .args .n in
+    let g = l .loop .inv .1 in
+    let long = length-take-le n (l .loop .rows) (omega (arith, g .working .rowsLong, row-end (length (l .loop .divisors)) (suc n) 0 (g .some))) in
+    omega (arith, l .loop .inv .2, smallest-inside (take n (l .loop .rows)) (g .alive), long)
+
 -- ---- after `turn`: the tables at the loop's head are those before it
+abbrev pub read : tie.After-turn Inv-loop μ-loop → tie.After-lead Inv-loop μ-loop
+read t = t .before .before .before .before
+
 abbrev pub head : tie.After-turn Inv-loop μ-loop → tie.At-loop Inv-loop μ-loop
-head t = t .before .before .before .before .before
+head t = t .before .before .before .before .before .before
 
 abbrev pub entry : tie.After-turn Inv-loop μ-loop → tie.Start Inv-loop μ-loop
-entry t = t .before .before .before .before .before .before .before .before .before .before .before .before
+entry t = begun (head t)
+
+-- the number at the column, which comes through the machine's words as it is
+abbrev pub lead : tie.After-turn Inv-loop μ-loop → ℤ
+lead t = at (head t .loop .rows) (head t .loop .k)
+
+pub lead-back : (t : tie.After-turn Inv-loop μ-loop) → toZ w64 (ofZ w64 (lead t)) ≡ lead t
+lead-back t = back (lead t) (read t .lead .given)
 
 -- a step is left
 pub more : (t : tie.After-turn Inv-loop μ-loop) → 0 < head t .loop .left
-more t = t .before .before .before .before .loop-test .taken
+more t = t .before .before .before .before .before .loop-test .taken
 
 -- what `turn` ensures of an answer
-pub told : (t : tie.After-turn Inv-loop μ-loop) (answer : Turning) → t .turn .result ≡ answer → let a = entry t .args in let l = head t .loop in let z = t .turn .last in
-    turnedTables answer (a .n) (length (l .divisors)) (z .0) (z .1 .0) (z .1 .1 .0)
+pub told : (t : tie.After-turn Inv-loop μ-loop) (answer : Bool) → t .turn .result ≡ answer → let a = entry t .args in let l = head t .loop in let z = t .turn .last in
+    tried answer (turnedTables (a .n) (length (l .divisors)) (z .0) (z .1 .0) (z .1 .1 .0))
     ≡ tried (allWithin (listedTurn (a .n) (firstStep (a .n) (l .rows)) (rowsOf (suc (a .n)) (length (l .divisors)) (l .rows)) (rowsOf (suc (a .n)) (a .n) (l .substitution)) (rowsOf (suc (a .n)) (a .n) (l .back))))
     (turned (a .n) (firstStep (a .n) (l .rows)) (rowsOf (suc (a .n)) (length (l .divisors)) (l .rows)) (rowsOf (suc (a .n)) (a .n) (l .substitution)) (rowsOf (suc (a .n)) (a .n) (l .back)))
 told t answer e = rw e at (t .turn .ensures)
@@ -112,17 +132,11 @@ pub turned-inside : (t : tie.After-turn Inv-loop μ-loop) → entry t .args .n �
 turned-inside t = omega (arith, row-inside (entry t), long-turned t .rowsKept)
 
 -- ---- where it made a step
-abbrev pub turning : tie.After-found Inv-loop μ-loop → tie.After-turn Inv-loop μ-loop
-turning f = f .before .before .before .before .before
+abbrev pub turning : tie.Else1 Inv-loop μ-loop → tie.After-turn Inv-loop μ-loop
+turning f = f .before .before .before .before
 
-abbrev pub column : tie.After-found Inv-loop μ-loop → ℕ
-column f = f .found .given .0 .0
-
-abbrev pub lead : tie.After-found Inv-loop μ-loop → ℤ
-lead f = f .found .given .0 .1 .0
-
-pub stepped : (f : tie.After-found Inv-loop μ-loop) → let t = turning f in let a = entry t .args in let l = head t .loop in let z = t .turn .last in
-    Steps (a .n) (a .m) (l .rows) (l .multipliers) (l .divisors) (l .substitution) (l .marks) (l .back) (l .reasons) (column f) (lead f) (z .0) (z .1 .0) (z .1 .1 .0)
+pub stepped : (f : tie.Else1 Inv-loop μ-loop) → let t = turning f in let a = entry t .args in let l = head t .loop in let z = t .turn .last in
+    Steps (a .n) (a .m) (l .rows) (l .multipliers) (l .divisors) (l .substitution) (l .marks) (l .back) (l .reasons) (l .k) (lead t) (z .0) (z .1 .0) (z .1 .1 .0)
 stepped f =
     let t = turning f in
     let a = entry t .args in
@@ -131,40 +145,35 @@ stepped f =
     let z = t .turn .last in
     let k = t .turn .kept in
     made-steps (a .n) (a .m) (l .rows) (l .multipliers) (l .divisors) (l .substitution) (l .marks) (l .back) (l .reasons) (g .working) (g .results) (g .some) (g .alive)
-    (column f) (lead f) (z .0) (z .1 .0) (z .1 .1 .0) (k .0) (k .1 .0) (k .1 .1 .0) (told t _ (f .found .given .1))
+    (l .k) (l .inv .2) (omega (arith, found-inside (head t))) (z .0) (z .1 .0) (z .1 .1 .0) (k .0) (k .1 .0) (k .1 .1 .0)
+    (told t _ (not-false (t .turn .result) (f .if1 .left)))
 
--- the coefficient comes through the machine's words as it is
-pub lead-back : (f : tie.After-found Inv-loop μ-loop) → toZ w64 (ofZ w64 (lead f)) ≡ lead f
-lead-back f =
-    let small = lead-small (stepped f) (head (turning f) .loop .inv .1 .working .rowsWithin) in
-    toZ-ofZ (fits-abs (lead f) (omega arith))
-
-pub measured : (q : tie.After-magnitude Inv-loop μ-loop) → q .magnitude .result ≡ natAbs (lead (q .before .before))
-measured q = q .magnitude .ensures ∙ ap natAbs (lead-back (q .before .before))
+pub measured : (q : tie.After-magnitude Inv-loop μ-loop) → q .magnitude .result ≡ natAbs (lead (turning (q .before)))
+measured q = q .magnitude .ensures ∙ ap natAbs (lead-back (turning (q .before)))
 
 -- ---- after `close`
-abbrev pub found : tie.After-close Inv-loop μ-loop → tie.After-found Inv-loop μ-loop
-found s = s .before .before .before .before .before .before .before .before .before
+abbrev pub made : tie.After-close Inv-loop μ-loop → tie.After-turn Inv-loop μ-loop
+made s = turning (s .before .before .before .before .before .before .before .before)
 
-shut-told : (s : tie.After-close Inv-loop μ-loop) → let f = found s in let t = turning f in let a = entry t .args in let l = head t .loop in let y = s .close .last in
+shut-told : (s : tie.After-close Inv-loop μ-loop) → let t = made s in let a = entry t .args in let l = head t .loop in let y = s .close .last in
     tried (s .close .result) (shutTables (a .n) (a .m) (y .0) (y .1 .0) (y .1 .1 .0) (y .1 .1 .1 .0) (y .1 .1 .1 .1 .0))
-    ≡ tried (allWithin (listedShut (column f) (getD (l .divisors) 0 0) (scaled (lead f) (take (a .m) (l .multipliers))) (laterOf (a .n) (a .m) (t .turn .last .0) (l .multipliers) (l .divisors))))
-    (shut (column f) (getD (l .divisors) 0 0) (scaled (lead f) (take (a .m) (l .multipliers))) (laterOf (a .n) (a .m) (t .turn .last .0) (l .multipliers) (l .divisors)) (l .marks) (rowsOf (suc (a .m)) (a .n) (l .reasons)))
-shut-told s = rw (lead-back (found s)) at (s .close .ensures)
+    ≡ tried (allWithin (listedShut (l .k) (getD (l .divisors) 0 0) (scaled (lead t) (take (a .m) (l .multipliers))) (laterOf (a .n) (a .m) (t .turn .last .0) (l .multipliers) (l .divisors))))
+    (shut (l .k) (getD (l .divisors) 0 0) (scaled (lead t) (take (a .m) (l .multipliers))) (laterOf (a .n) (a .m) (t .turn .last .0) (l .multipliers) (l .divisors)) (l .marks) (rowsOf (suc (a .m)) (a .n) (l .reasons)))
+shut-told s = rw (lead-back (made s)) at (s .close .ensures)
 
-pub shut-as : (s : tie.After-close Inv-loop μ-loop) (answer : Bool) → s .close .result ≡ answer → let f = found s in let t = turning f in let a = entry t .args in let l = head t .loop in let y = s .close .last in
+pub shut-as : (s : tie.After-close Inv-loop μ-loop) (answer : Bool) → s .close .result ≡ answer → let t = made s in let a = entry t .args in let l = head t .loop in let y = s .close .last in
     tried answer (shutTables (a .n) (a .m) (y .0) (y .1 .0) (y .1 .1 .0) (y .1 .1 .1 .0) (y .1 .1 .1 .1 .0))
-    ≡ tried (allWithin (listedShut (column f) (getD (l .divisors) 0 0) (scaled (lead f) (take (a .m) (l .multipliers))) (laterOf (a .n) (a .m) (t .turn .last .0) (l .multipliers) (l .divisors))))
-    (shut (column f) (getD (l .divisors) 0 0) (scaled (lead f) (take (a .m) (l .multipliers))) (laterOf (a .n) (a .m) (t .turn .last .0) (l .multipliers) (l .divisors)) (l .marks) (rowsOf (suc (a .m)) (a .n) (l .reasons)))
+    ≡ tried (allWithin (listedShut (l .k) (getD (l .divisors) 0 0) (scaled (lead t) (take (a .m) (l .multipliers))) (laterOf (a .n) (a .m) (t .turn .last .0) (l .multipliers) (l .divisors))))
+    (shut (l .k) (getD (l .divisors) 0 0) (scaled (lead t) (take (a .m) (l .multipliers))) (laterOf (a .n) (a .m) (t .turn .last .0) (l .multipliers) (l .divisors)) (l .marks) (rowsOf (suc (a .m)) (a .n) (l .reasons)))
 shut-as s answer e =
-    let a = entry (turning (found s)) .args in
+    let a = entry (made s) .args in
     let y = s .close .last in
     ap (λ (b : Bool). tried b (shutTables (a .n) (a .m) (y .0) (y .1 .0) (y .1 .1 .0) (y .1 .1 .1 .0) (y .1 .1 .1 .1 .0))) (sym e) ∙ shut-told s
 
-pub long-shut : (s : tie.After-close Inv-loop μ-loop) → let t = turning (found s) in let a = entry t .args in let z = t .turn .last in let y = s .close .last in
+pub long-shut : (s : tie.After-close Inv-loop μ-loop) → let t = made s in let a = entry t .args in let z = t .turn .last in let y = s .close .last in
     Long (a .rows .now) (a .multipliers .now) (a .divisors .now) (a .substitution .now) (a .marks .now) (a .back .now) (a .reasons .now)
     (y .0) (y .1 .0) (y .1 .1 .0) (z .1 .0) (y .1 .1 .1 .0) (z .1 .1 .0) (y .1 .1 .1 .1 .0)
-long-shut s = let g = long-turned (turning (found s)) in let k = s .close .kept in record {
+long-shut s = let g = long-turned (made s) in let k = s .close .kept in record {
   rowsKept = k .0 ∙ g .rowsKept;
   multipliersKept = k .1 .0 ∙ g .multipliersKept;
   divisorsKept = k .1 .1 .0 ∙ g .divisorsKept;
