@@ -5,43 +5,31 @@ use mathlib.Core.List.{List, _∷_, _++_, map}
 use Prim.Native.Nat.{ℕ, zero, suc, _+_, _*_, _≤_}
 use native.Mathlib.Nat.{suc-mul}
 use native.Mathlib.Omega.{arith}
-use lib.ListN.{length, take, drop, replicate, length-set, length-replicate, length-map, replicate-append-replicate}
+use lib.ListN.{length, take, drop, replicate, length-replicate, length-map, replicate-append-replicate}
 use lib.Seq.{take-at, drop-at}
 use lib.IntN.{ℤ, pos}
 use Rattle.rows.specs.Row.{zeros, unitRow, allWithin}
-use Rattle.rows.specs.Table.{rowsOf, flat, Wide}
+use Rattle.rows.specs.Table.{rowsOf, flat}
+use Rattle.rows.proofs.Algebra.{length-unit, units-wide}
 use Rattle.rows.proofs.TableLaws.{rowsOf-flat, length-flat}
 use Rattle.rules.specs.Elimination.{Carried, counted, identity, start, carried, inOrder, run, elimination}
+use Rattle.rules.proofs.Lengths.{length-counted}
 use Rattle.rules.proofs.RunWithin.{units-within}
 use Rattle.steps.specs.Shown.{carriedOf, Divisors}
 use Rattle.stepping.specs.Worked.{stateOf, Working3, Results4}
-
-length-unit : (w i : ℕ) → length (unitRow w i) ≡ w
-unfolding unitRow zeros
-length-unit w i = length-set (replicate w (pos 0)) i (pos 1) ∙ length-replicate w (pos 0)
 
 -- ---- unit rows in a table
 abbrev pub unitTable : ℕ → ℕ → ℕ → List ℤ
 unitTable w j count = flat (map (unitRow w) (counted j count))
 
-units-wide : (w j count : ℕ) → Wide w (map (unitRow w) (counted j count))
-unfolding counted
-units-wide w j zero = tt
-units-wide w j (suc count) = (length-unit w j, units-wide w (suc j) count)
-
-length-counted : (j count : ℕ) → length (counted j count) ≡ count
-unfolding counted
-length-counted j zero = refl
-length-counted j (suc count) = ap suc (length-counted (suc j) count)
-
 units-rows : (w j count : ℕ) → rowsOf w count (unitTable w j count) ≡ map (unitRow w) (counted j count)
 units-rows w j count =
     ap (λ (k : ℕ). rowsOf w k (unitTable w j count)) (sym (length-map (counted j count) (unitRow w) ∙ length-counted j count))
-    ∙ rowsOf-flat w (map (unitRow w) (counted j count)) (units-wide w j count)
+    ∙ rowsOf-flat w (map (unitRow w) (counted j count)) (units-wide w (counted j count))
 
 pub units-long : (w j count : ℕ) → length (unitTable w j count) ≡ count * w
 units-long w j count =
-    length-flat w (map (unitRow w) (counted j count)) (units-wide w j count)
+    length-flat w (map (unitRow w) (counted j count)) (units-wide w (counted j count))
     ∙ ap (λ (k : ℕ). k * w) (length-map (counted j count) (unitRow w) ∙ length-counted j count)
 
 -- ---- zeros in a table

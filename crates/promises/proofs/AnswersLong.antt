@@ -12,13 +12,12 @@ use lib.IntN.{ℤ, pos, natAbs}
 use Rattle.whole.specs.Gcd.{gcd}
 use Rattle.rows.specs.Row.{at, gcdOf, smallest, zeros, scaled}
 use Rattle.rows.specs.Table.{Wide}
-use Rattle.rows.proofs.Algebra.{length-less, length-scaled}
+use Rattle.rows.proofs.Algebra.{length-less, length-scaled, length-unit}
 use Rattle.rows.proofs.TableLaws.{wide-set}
 use Rattle.rows.proofs.Divisors.{length-divided}
 use Rattle.rules.specs.Elimination.{State, Carried, Step, Worked, passed, unmet, large, Ended, finished, conflicting, tooLarge}
 use Rattle.rules.specs.Elimination.{stepOf, putInto, stepped, reasonOf, factor, lost, corrected, shared, lowestTerms, byGcd, closed, oneMore, reduced, gcdOfCoefficients}
 use Rattle.rules.specs.Elimination.{closing, stepping, stepBound, work, inOrder, run, start, carried}
-use Rattle.promises.proofs.Image.{length-unit}
 
 -- a table of copies of a row of the right width
 wide-replicate : (width count : ℕ) (row : List ℤ) → length row ≡ width → Wide width (replicate count row)

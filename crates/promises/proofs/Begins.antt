@@ -11,9 +11,9 @@ use lib.IntN.{ℤ, pos}
 use Rattle.whole.proofs.Reify.{reify, ring}
 use Rattle.rows.specs.Row.{dot, values, zeros, unitRow}
 use Rattle.rows.specs.Table.{Wide}
-use Rattle.rows.proofs.Algebra.{dot-unit}
+use Rattle.rows.proofs.Algebra.{length-unit, dot-unit}
 use Rattle.rules.specs.Elimination.{identity, carried}
-use Rattle.promises.proofs.Image.{image, image-identity, length-identity, wide-identity, length-unit, at-values}
+use Rattle.promises.proofs.Image.{image, image-identity, length-identity, wide-identity, at-values}
 use Rattle.promises.proofs.Invariant.{Shut, Sound, Carries, Standing, none, more}
 
 -- no column is closed

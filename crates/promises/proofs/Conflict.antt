@@ -17,13 +17,14 @@ use Rattle.whole.proofs.Integers.{natAbs-*}
 use Rattle.whole.proofs.Divides.{_∣ℤ_, divides-true}
 use Rattle.rows.specs.Row.{at, dot, values, zeros, unitRow, gcdOf}
 use Rattle.rows.specs.Table.{Wide}
+use Rattle.rows.proofs.Algebra.{length-unit}
 use Rattle.rows.proofs.Bounded.{and-both}
 use Rattle.rows.proofs.Divisors.{gcdOf-divides, gcdOf-greatest}
 use Rattle.rules.specs.Elimination.{Carried, gcdOfCoefficients}
 use Rattle.rules.specs.Checker.{combined, refutes}
 use Rattle.promises.proofs.Values.{divides-value, divides-constant, divided-all, dot-at-unit}
 use Rattle.promises.proofs.Checked.{length-combined, dot-combined}
-use Rattle.promises.proofs.Image.{image, length-image, image-end, length-unit}
+use Rattle.promises.proofs.Image.{image, length-image, image-end}
 use Rattle.promises.proofs.Invariant.{Sound, Carries}
 
 -- ---- the numbers of a unit point

@@ -5,15 +5,15 @@ use mathlib.Core.List.{List, [], _∷_, _++_, map}
 use Prim.Native.Nat.{ℕ, zero, suc, _+_, _<_}
 use native.Mathlib.Numerals.{add-one}
 use native.Mathlib.Omega.{arith}
-use lib.ListN.{length, getD, set, drop, length-append, length-set, length-map, length-replicate, List·getD-map, List·getD-append, drop-of-length-le}
+use lib.ListN.{length, getD, set, drop, length-append, length-map, List·getD-map, List·getD-append, drop-of-length-le}
 use lib.Seq.{getD-set-other, set-append-left, getD-at, drop-cons}
 use lib.IntN.{ℤ, pos, _+ℤ_}
-use Rattle.rows.specs.Row.{at, dot, values, zeros, unitRow, gathered}
+use Rattle.rows.specs.Row.{at, dot, values, unitRow, gathered}
 use Rattle.rows.specs.Table.{Wide}
-use Rattle.rows.proofs.Algebra.{dot-unit, dot-gathered, length-gathered, into, back, substitution}
+use Rattle.rows.proofs.Algebra.{length-unit, units-wide, dot-unit, dot-gathered, length-gathered, into, back, substitution}
 use Rattle.rows.proofs.TableLaws.{wide-set}
 use Rattle.rules.specs.Elimination.{Step, putIn, wayBackRow, counted, identity}
-use Rattle.rules.proofs.Lengths.{length-putIn}
+use Rattle.rules.proofs.Lengths.{length-counted, length-putIn}
 use Rattle.promises.specs.Meaning.{point}
 use Rattle.promises.proofs.Checked.{point-end}
 
@@ -86,22 +86,9 @@ pub image-identity : (n : ℕ) (p : List ℤ) → length p ≡ suc n → image n
 unfolding image extended identity
 image-identity n p h = unit-values n 0 n p (omega arith) h
 
-counted-length : (i k : ℕ) → length (counted i k) ≡ k
-unfolding counted
-counted-length i zero = refl
-counted-length i (suc k) = ap suc (counted-length (suc i) k)
-
 pub length-identity : (n : ℕ) → length (identity n) ≡ n
 unfolding identity
-length-identity n = length-map (counted 0 n) (unitRow (suc n)) ∙ counted-length 0 n
-
-pub length-unit : (width i : ℕ) → length (unitRow width i) ≡ width
-unfolding unitRow zeros
-length-unit width i = length-set (zeros width) i (pos 1) ∙ length-replicate width (pos 0)
-
-units-wide : (width : ℕ) (l : List ℕ) → Wide width (map (unitRow width) l)
-units-wide width [] = tt
-units-wide width (i ∷ l) = (length-unit width i, units-wide width l)
+length-identity n = length-map (counted 0 n) (unitRow (suc n)) ∙ length-counted 0 n
 
 pub wide-identity : (n : ℕ) → Wide (suc n) (identity n)
 unfolding identity

@@ -1,10 +1,10 @@
 -- The value of a row: linear in the row and in the point. Missing entries count as 0, so most laws ask nothing of the lengths.
 use mathlib.Core.Path.{_≡_, refl, sym, ap, ap₂, _∙_}
-use mathlib.Core.List.{List, [], _∷_, _++_}
+use mathlib.Core.List.{List, [], _∷_, _++_, map}
 use Prim.Native.Nat.{ℕ, zero, suc, _≤_, _<_}
 use native.Mathlib.Nat.{not-suc-le-zero, le-of-suc-le-suc, suc-inj}
 use native.Mathlib.Omega.{arith}
-use lib.ListN.{length, set, length-map, length-replicate, getD-replicate}
+use lib.ListN.{length, set, length-set, length-map, length-replicate, getD-replicate}
 use lib.Seq.{set-set, set-getD, getD-set-same}
 use lib.IntN.{ℤ, pos, negℤ, _+ℤ_, _-ℤ_, _*ℤ_, +ℤ-idl, +ℤ-idr}
 use Rattle.whole.proofs.Reify.{reify, ring}
@@ -69,6 +69,14 @@ unfolding dot zeros
 dot-zeros zero x = refl
 dot-zeros (suc width) [] = refl
 dot-zeros (suc width) (b ∷ x) = ap (λ z. pos 0 *ℤ b +ℤ z) (dot-zeros width x) ∙ ring (b ∷ []) (search reify) (search reify) refl
+
+pub length-unit : (width i : ℕ) → length (unitRow width i) ≡ width
+unfolding unitRow zeros
+length-unit width i = length-set (zeros width) i (pos 1) ∙ length-replicate width (pos 0)
+
+pub units-wide : (width : ℕ) (l : List ℕ) → Wide width (map (unitRow width) l)
+units-wide width [] = tt
+units-wide width (i ∷ l) = (length-unit width i, units-wide width l)
 
 pub dot-unit : (width i : ℕ) (x : List ℤ) → i < width → dot (unitRow width i) x ≡ at x i
 unfolding unitRow zeros
