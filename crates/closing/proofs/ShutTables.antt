@@ -11,7 +11,7 @@ use lib.IntN.{ℤ, pos}
 use Rattle.rows.specs.Row.{allWithin}
 use Rattle.rules.specs.Elimination.{Carried, corrected}
 use Rattle.steps.specs.Shown.{made, beyond, tried, Divisor, Divisors}
-use Rattle.closing.specs.Shut.{shut, listedShut}
+use Rattle.closing.specs.Shut.{shut, listedShut, correctedOf, shutBy}
 use Rattle.steps.proofs.Attempts.{tried-fits, tried-made}
 
 -- ---- a list from column w on, in the form in which it is lent and in which it comes back
@@ -45,18 +45,17 @@ divisors-behind (d ∷ ds) e = e .1
 
 -- ---- whether the rows behind the first, corrected, fit, and what is then made of the tables
 module _ (k d : ℕ) (reason : List ℤ) (later after : List Carried) (b : Bool)
-    (done : tried b after ≡ tried (allWithin (listedShut k d reason later)) (map (corrected k d reason) later))
+    (done : tried b after ≡ correctedOf k d reason later)
     (marks : List ℕ) (reasons : List (List ℤ)) where
   verdict : b ≡ allWithin (listedShut k d reason later)
   verdict = tried-fits b (allWithin (listedShut k d reason later)) after (map (corrected k d reason) later) done
 
-  pub shut-none : b ≡ false → beyond ≡ tried (allWithin (listedShut k d reason later)) (shut k d reason later marks reasons)
+  pub shut-none : b ≡ false → beyond ≡ shutBy k d reason later marks reasons
   shut-none e = ap (λ (f : Bool). tried f (shut k d reason later marks reasons)) (sym e ∙ verdict)
 
   pub shut-made : (later′ : List Carried) (marks′ : List ℕ) (reasons′ : List (List ℤ)) → b ≡ true → later′ ≡ after → marks′ ≡ set marks k 0
       → reasons′ ≡ set reasons k (reason ++ pos d ∷ [])
-      → made (record { later = later′; marks = marks′; reasons = reasons′ })
-      ≡ tried (allWithin (listedShut k d reason later)) (shut k d reason later marks reasons)
+      → made (record { later = later′; marks = marks′; reasons = reasons′ }) ≡ shutBy k d reason later marks reasons
   shut-made later′ marks′ reasons′ e f g h =
       let corrections = tried-made b (allWithin (listedShut k d reason later)) after (map (corrected k d reason) later) e done in
       rw (f, corrections, g, h) (ap (λ (x : Bool). tried x (shut k d reason later marks reasons)) (sym e ∙ verdict))

@@ -1,15 +1,12 @@
 // Step (d): a column closes, and every later row loses it.
 ghost use mathlib.Core.Path.{_≡_};
 ghost use mathlib.Core.Bool.{true};
-ghost use mathlib.Core.List.{map};
 ghost use Prim.Native.Nat.{suc, _≤_, _<_, _*_};
 ghost use lib.IntN.{natAbs};
-ghost use lib.ListN.{length, getD, take};
-ghost use Rattle.rows.specs.Row.{scaled, allWithin};
-ghost use Rattle.rows.specs.Table.{rowsOf, flat};
-ghost use Rattle.rules.specs.Elimination.{corrected, listedD};
-ghost use Rattle.closing.specs.Shut.{shut, listedShut, shutTables};
-ghost use Rattle.steps.specs.Shown.{tried, carriedOf, Divisor, Divisors, laterOf};
+ghost use lib.ListN.{length};
+ghost use Rattle.rows.specs.Row.{allWithin};
+ghost use Rattle.closing.specs.Shut.{correctedOf, shutTables, shutOf};
+ghost use Rattle.steps.specs.Shown.{tried, carriedOf, Divisor, Divisors};
 use steps::Kept;
 
 // (d) for all later rows, up to the first that is refused.
@@ -24,7 +21,7 @@ fn correct_later(
 ) -> bool
     requires { ⌜ (length (now rows) ≡ length (now divisors) * w) × (length (now multipliers) ≡ length (now divisors) * length (now reason)) × (k < w) × Divisors (now divisors) × Divisor d ⌝ }
     requires { ⌜ (allWithin (now rows) ≡ true) × (allWithin (now multipliers) ≡ true) × (allWithin (now reason) ≡ true) ⌝ }
-    ensures { λ r. ⌜ tried r (carriedOf w (length (now (reason .entry))) (now (rows .exit)) (now (multipliers .exit)) (now (divisors .exit))) ≡ tried (allWithin (flat (map (listedD k d (now (reason .entry))) (carriedOf w (length (now (reason .entry))) (now (rows .entry)) (now (multipliers .entry)) (now (divisors .entry)))))) (map (corrected k d (now (reason .entry))) (carriedOf w (length (now (reason .entry))) (now (rows .entry)) (now (multipliers .entry)) (now (divisors .entry)))) ⌝ }
+    ensures { λ r. ⌜ tried r (carriedOf w (length (now (reason .entry))) (now (rows .exit)) (now (multipliers .exit)) (now (divisors .exit))) ≡ correctedOf k d (now (reason .entry)) (carriedOf w (length (now (reason .entry))) (now (rows .entry)) (now (multipliers .entry)) (now (divisors .entry))) ⌝ }
 {
     let m = reason.len();
     let mut r = 0;
@@ -68,7 +65,7 @@ pub fn close(
     requires { ⌜ (length (now rows) ≡ length (now divisors) * suc n) × (length (now multipliers) ≡ length (now divisors) * m) × (1 ≤ length (now divisors)) × (length (now marks) ≡ n) × (length (now reasons) ≡ n * suc m) ⌝ }
     requires { ⌜ (n ≤ 32) × (m ≤ 32) × (k < n) × (natAbs a ≤ 1) × Divisors (now divisors) ⌝ }
     requires { ⌜ (allWithin (now rows) ≡ true) × (allWithin (now multipliers) ≡ true) ⌝ }
-    ensures { λ r. ⌜ tried r (shutTables n m (now (rows .exit)) (now (multipliers .exit)) (now (divisors .exit)) (now (marks .exit)) (now (reasons .exit))) ≡ tried (allWithin (listedShut k (getD (now (divisors .entry)) 0 0) (scaled a (take m (now (multipliers .entry)))) (laterOf n m (now (rows .entry)) (now (multipliers .entry)) (now (divisors .entry))))) (shut k (getD (now (divisors .entry)) 0 0) (scaled a (take m (now (multipliers .entry)))) (laterOf n m (now (rows .entry)) (now (multipliers .entry)) (now (divisors .entry))) (now (marks .entry)) (rowsOf (suc m) n (now (reasons .entry)))) ⌝ }
+    ensures { λ r. ⌜ tried r (shutTables n m (now (rows .exit)) (now (multipliers .exit)) (now (divisors .exit)) (now (marks .exit)) (now (reasons .exit))) ≡ shutOf n m k a (now (rows .entry)) (now (multipliers .entry)) (now (divisors .entry)) (now (marks .entry)) (now (reasons .entry)) ⌝ }
 {
     let w = n + 1;
     let d = divisors[0];

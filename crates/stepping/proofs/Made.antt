@@ -15,7 +15,7 @@ use Rattle.rules.specs.Elimination.{Carried, Step, stepOf, putIn, putInto, wayB
 use Rattle.rules.proofs.Within.{left-part, right-part, set-within}
 use Rattle.rules.proofs.RowInHand.{gcd-kept}
 use Rattle.steps.specs.Shown.{tried, laterOf}
-use Rattle.turning.specs.Turned.{Turned, turned, listedTurn, turnedTables}
+use Rattle.turning.specs.Turned.{Turned, turned, listedTurn, turnedTables, turnOf}
 use Rattle.turning.proofs.TurnedStep.{step-is}
 use Rattle.stepping.specs.Worked.{stateOf, inHand, Working3, Results4}
 use Rattle.stepping.proofs.Turns.{tried-true, tried-made, listed-turned, hand-turned, later-turned}
@@ -56,9 +56,7 @@ module _ (n m : ℕ) (rows multipliers : List ℤ) (divisors : List ℕ) (substi
 
   module _ (k : ℕ) (found : k ≡ smallest (take n rows)) (inside : k ≤ n) (rows′ substitution′ back′ : List ℤ)
       (rows-long : length rows′ ≡ length rows) (substitution-long : length substitution′ ≡ length substitution) (back-long : length back′ ≡ length back)
-      (e : tried true (turnedTables n (length divisors) rows′ substitution′ back′)
-      ≡ tried (allWithin (listedTurn n (firstStep n rows) (rowsOf (suc n) (length divisors) rows) (rowsOf (suc n) n substitution) (rowsOf (suc n) n back)))
-      (turned n (firstStep n rows) (rowsOf (suc n) (length divisors) rows) (rowsOf (suc n) n substitution) (rowsOf (suc n) n back))) where
+      (e : tried true (turnedTables n (length divisors) rows′ substitution′ back′) ≡ turnOf n (length divisors) rows substitution back) where
     shown : Turned
     shown = turnedTables n (length divisors) rows′ substitution′ back′
 

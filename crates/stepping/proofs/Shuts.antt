@@ -11,8 +11,8 @@ use Rattle.rows.specs.Row.{scaled, allWithin}
 use Rattle.rows.specs.Table.{rowsOf}
 use Rattle.rules.specs.Elimination.{Carried, stepped, oneMore, closed, reasonOf, corrected, closing, stepping, Worked, passed, large}
 use Rattle.steps.specs.Shown.{tried, laterOf}
-use Rattle.turning.specs.Turned.{turned, listedTurn, turnedTables}
-use Rattle.closing.specs.Shut.{Shut, shut, listedShut, shutTables}
+use Rattle.turning.specs.Turned.{listedTurn, turnedTables, turnOf}
+use Rattle.closing.specs.Shut.{Shut, shut, listedShut, shutTables, shutOf}
 use Rattle.stepping.specs.Worked.{stateOf, inHand}
 use Rattle.stepping.proofs.Turns.{tried-beyond, tried-true, tried-made, listed-turned, stepping-large, stepping-closes, stepping-more, closing-large, closing-passes}
 use Rattle.stepping.proofs.Made.{firstStep, Steps}
@@ -24,9 +24,7 @@ module _ (n m most count : ℕ) (rows multipliers : List ℤ) (divisors : List �
 
   -- a number listed by (c) is beyond the limit
   pub too-far : 1 ≤ length divisors → (rows′ substitution′ back′ : List ℤ)
-      → tried false (turnedTables n (length divisors) rows′ substitution′ back′)
-      ≡ tried (allWithin (listedTurn n (firstStep n rows) (rowsOf (suc n) (length divisors) rows) (rowsOf (suc n) n substitution) (rowsOf (suc n) n back)))
-      (turned n (firstStep n rows) (rowsOf (suc n) (length divisors) rows) (rowsOf (suc n) n substitution) (rowsOf (suc n) n back))
+      → tried false (turnedTables n (length divisors) rows′ substitution′ back′) ≡ turnOf n (length divisors) rows substitution back
       → large count ≡ ahead
   too-far some rows′ substitution′ back′ e =
       let s = stateOf n m substitution marks back reasons count in
@@ -82,8 +80,7 @@ module _ (n m most count : ℕ) (rows multipliers : List ℤ) (divisors : List �
         later′ = laterOf n m rows′ multipliers divisors
 
         pub shut-large : tried false (shutTables n m rows″ multipliers″ divisors″ marks″ reasons″)
-            ≡ tried (allWithin (listedShut column (getD divisors 0 0) (scaled lead (take m multipliers)) (laterOf n m rows′ multipliers divisors)))
-            (shut column (getD divisors 0 0) (scaled lead (take m multipliers)) (laterOf n m rows′ multipliers divisors) marks (rowsOf (suc m) n reasons))
+            ≡ shutOf n m column lead rows′ multipliers divisors marks reasons
             → large count ≡ ahead
         unfolding reason d later′
         shut-large e =
@@ -107,8 +104,7 @@ module _ (n m most count : ℕ) (rows multipliers : List ℤ) (divisors : List �
             (add-one count)
 
         pub shut-passes : tried true (shutTables n m rows″ multipliers″ divisors″ marks″ reasons″)
-            ≡ tried (allWithin (listedShut column (getD divisors 0 0) (scaled lead (take m multipliers)) (laterOf n m rows′ multipliers divisors)))
-            (shut column (getD divisors 0 0) (scaled lead (take m multipliers)) (laterOf n m rows′ multipliers divisors) marks (rowsOf (suc m) n reasons))
+            ≡ shutOf n m column lead rows′ multipliers divisors marks reasons
             → passed (laterOf n m rows″ multipliers″ divisors″) (stateOf n m substitution′ marks″ back′ reasons″ (count + 1)) ≡ ahead
         unfolding reason d later′
         shut-passes e =

@@ -21,6 +21,7 @@ use Rattle.rows.proofs.Bounded.{bounded-at, bounded-take, bounded-gathered}
 use Rattle.rows.proofs.Algebra.{length-gathered}
 use Rattle.rows.proofs.TableLaws.{length-rowAt, length-rowsOf, flat-rowsOf, row-of}
 use Rattle.tables.proofs.Multiples.{within-row}
+use Rattle.turning.specs.Turned.{returned}
 use Rattle.in_place.proofs.InPlace.{row-at, row-set, set-in-row}
 
 -- ---- the last of the rows that are gathered
@@ -55,9 +56,6 @@ less-unit row c width n h l = less-set row c width n h l
 -- ---- row k of the way back of n rows, without q's constant and with it
 abbrev pub gain : ℕ → ℕ → List ℤ → List ℤ → List ℤ
 gain n k q t = gathered (rowAt (suc n) k t) (take n q) (rowsOf (suc n) n t)
-
-abbrev pub returned : ℕ → ℕ → List ℤ → List ℤ → List ℤ
-returned n k q t = gathered (getD (rowsOf (suc n) n t) k []) q (rowsOf (suc n) n t ++ unitRow (suc n) n ∷ [])
 
 module _ (n k : ℕ) (q t : List ℤ) (h : k < n) (e : length t ≡ n * suc n) where
   pub length-gain : length (gain n k q t) ≡ suc n

@@ -15,9 +15,8 @@ use Rattle.rows.proofs.Bounded.{bounded-append, bounded-take, bounded-set, boun
 use Rattle.rows.proofs.TableLaws.{length-rowsOf, wide-rowsOf, rowsOf-flat}
 use Rattle.tables.proofs.Multiples.{without}
 use Rattle.rules.specs.Elimination.{Step, stepOf, putIn, wayBackRow}
-use Rattle.turning.specs.Turned.{Turned, turned, listedTurn, turnedTables}
+use Rattle.turning.specs.Turned.{Turned, turned, listedTurn, turnedTables, returned}
 use Rattle.steps.specs.Shown.{tried}
-use Rattle.turning.proofs.TurnedRows.{returned}
 use Rattle.steps.proofs.Attempts.{tried-same, tried-none, tried-fits, tried-made}
 
 -- ---- the step of a table's first row

@@ -1,21 +1,19 @@
 // Step (c): the substitution of one step put into the rows, the substitution and the way back.
 ghost use mathlib.Core.Path.{_≡_};
 ghost use mathlib.Core.Bool.{true};
-ghost use mathlib.Core.List.{[], _∷_, _++_};
 ghost use Prim.Native.Nat.{suc, _≤_, _<_, _*_};
 ghost use lib.IntN.{pos};
-ghost use lib.ListN.{length, getD, set, take};
-ghost use Rattle.rows.specs.Row.{at, gcdOf, smallest, gathered, unitRow, allWithin};
+ghost use lib.ListN.{length, take};
+ghost use Rattle.rows.specs.Row.{at, gcdOf, smallest, allWithin};
 ghost use Rattle.rows.specs.Table.{rowsOf};
-ghost use Rattle.rules.specs.Elimination.{stepOf};
 ghost use Rattle.steps.specs.Shown.{tried};
-ghost use Rattle.turning.specs.Turned.{turned, listedTurn, turnedTables};
+ghost use Rattle.turning.specs.Turned.{turnedTables, turnOf, returnOf};
 
 // (c) for the way back: row k gains each row i as often as q says, and q's constant. It is worked on in place: q has 0 at column k, and
 // beyond the limit the table is not asked for.
 fn way_back(table: &mut [i64], n: usize, k: usize, q: &[i64]) -> bool
     requires { ⌜ (length (now table) ≡ n * suc n) × (n ≤ 32) × (k < n) × (length (now q) ≡ suc n) × (allWithin (now table) ≡ true) × (allWithin (now q) ≡ true) × (at (now q) k ≡ pos 0) ⌝ }
-    ensures { λ r. ⌜ tried r (rowsOf (suc n) n (now (table .exit))) ≡ tried (allWithin (gathered (getD (rowsOf (suc n) n (now (table .entry))) k []) (now (q .entry)) (rowsOf (suc n) n (now (table .entry)) ++ unitRow (suc n) n ∷ []))) (set (rowsOf (suc n) n (now (table .entry))) k (gathered (getD (rowsOf (suc n) n (now (table .entry))) k []) (now (q .entry)) (rowsOf (suc n) n (now (table .entry)) ++ unitRow (suc n) n ∷ []))) ⌝ }
+    ensures { λ r. ⌜ tried r (rowsOf (suc n) n (now (table .exit))) ≡ returnOf n k (now (q .entry)) (now (table .entry)) ⌝ }
 {
     let w = n + 1;
     in_place::gather_in(table, w, k, &q[..n]);
@@ -40,7 +38,7 @@ pub fn turn(
 ) -> bool
     requires { ⌜ (length (now rows) ≡ count * suc n) × (1 ≤ count) × (length (now substitution) ≡ n * suc n) × (length (now back) ≡ n * suc n) × (n ≤ 32) ⌝ }
     requires { ⌜ (allWithin (now rows) ≡ true) × (allWithin (now substitution) ≡ true) × (allWithin (now back) ≡ true) × (0 < gcdOf (take n (now rows))) × (k ≡ smallest (take n (now rows))) ⌝ }
-    ensures { λ r. ⌜ tried r (turnedTables n count (now (rows .exit)) (now (substitution .exit)) (now (back .exit))) ≡ tried (allWithin (listedTurn n (stepOf n (take (suc n) (now (rows .entry)))) (rowsOf (suc n) count (now (rows .entry))) (rowsOf (suc n) n (now (substitution .entry))) (rowsOf (suc n) n (now (back .entry))))) (turned n (stepOf n (take (suc n) (now (rows .entry)))) (rowsOf (suc n) count (now (rows .entry))) (rowsOf (suc n) n (now (substitution .entry))) (rowsOf (suc n) n (now (back .entry)))) ⌝ }
+    ensures { λ r. ⌜ tried r (turnedTables n count (now (rows .exit)) (now (substitution .exit)) (now (back .exit))) ≡ turnOf n count (now (rows .entry)) (now (substitution .entry)) (now (back .entry)) ⌝ }
 {
     let w = n + 1;
     let mut q = [0i64; 33];

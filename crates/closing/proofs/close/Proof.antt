@@ -2,7 +2,7 @@
 -- rows behind the first are corrected, and where all of them fit the reason is noted. The first row stays as it is.
 use mathlib.Core.Path.{_≡_, refl, sym, ap, ap₂, _∙_}
 use mathlib.Core.Bool.{true}
-use mathlib.Core.List.{List, _++_, map}
+use mathlib.Core.List.{List, _++_}
 use Prim.Native.Nat.{ℕ, suc, _+_, _*_, _≤_}
 use native.Mathlib.Numerals.{add-one}
 use native.Mathlib.Omega.{arith}
@@ -17,9 +17,9 @@ use Rattle.rows.specs.Row.{scaled, allWithin}
 use Rattle.rows.specs.Table.{rowsOf}
 use Rattle.rows.proofs.Algebra.{length-scaled}
 use Rattle.rows.proofs.Bounded.{bounded-take, bounded-drop}
-use Rattle.rules.specs.Elimination.{Carried, corrected}
+use Rattle.rules.specs.Elimination.{Carried}
 use Rattle.steps.specs.Shown.{tried, carriedOf, laterOf}
-use Rattle.closing.specs.Shut.{listedShut}
+use Rattle.closing.specs.Shut.{correctedOf}
 use Rattle.steps.proofs.Attempts.{lent-length}
 use Rattle.reasons.proofs.ShutRows.{bounded-scaled}
 use Rattle.closing.proofs.ShutTables.{rest-lent, rest-back, rows-behind, first-inside, divisors-first, divisors-behind, shut-none, shut-made}
@@ -92,8 +92,7 @@ after c =
     carriedOf (suc (a .n)) (a .m) (l .0) (l .1 .0) (l .1 .1 .0)
 
 ran : (c : tie.After-correct-later) → let s = entry (scaling c) in
-    tried (c .correct-later .result) (after c)
-    ≡ tried (allWithin (listedShut (s .args .k) (divisor s) (reason s) (behind s))) (map (corrected (s .args .k) (divisor s) (reason s)) (behind s))
+    tried (c .correct-later .result) (after c) ≡ correctedOf (s .args .k) (divisor s) (reason s) (behind s)
 ran c =
     let z = scaling c in
     let a = entry z .args in

@@ -16,7 +16,8 @@ use Rattle.rows.proofs.Lists.{row-end}
 use Rattle.rows.proofs.Bounded.{bounded-take}
 use Rattle.rows.proofs.TableLaws.{rowsOf-setRow, row-lent}
 use Rattle.in_place.proofs.InPlace.{row-set}
-use Rattle.turning.proofs.TurnedRows.{gain, returned, length-returned, with-constant, constant-fits, with-constant-is}
+use Rattle.turning.specs.Turned.{returned}
+use Rattle.turning.proofs.TurnedRows.{gain, length-returned, with-constant, constant-fits, with-constant-is}
 use Rattle.steps.proofs.Attempts.{tried-same}
 use Rattle.turning.proofs.way_back.Statement.{statement}
 use Rattle.turning.proofs.way_back.Tie as tie

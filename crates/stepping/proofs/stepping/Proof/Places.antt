@@ -6,24 +6,23 @@ use Prim.Native.Nat.{ℕ, suc, _+_, _≤_, _<_}
 use native.Mathlib.Omega.{arith}
 use mathlib.Core.List.{List}
 use borrow.Author.Tests.{not-false}
-use lib.ListN.{length, getD, take}
+use lib.ListN.{length, take}
 use lib.Seq.{getD-take, length-take-le}
 use lib.IntN.{ℤ, pos, natAbs}
 use mir.Syntax.{w64}
 use mir.Val.{toZ, ofZ}
 use Rattle.whole.specs.Limit.{W}
 use Rattle.whole.proofs.Taken.{back}
-use Rattle.rows.specs.Row.{at, smallest, scaled, allWithin}
-use Rattle.rows.specs.Table.{rowsOf}
+use Rattle.rows.specs.Row.{at, smallest}
 use Rattle.rows.proofs.Lists.{row-end}
 use Rattle.rows.proofs.Bounded.{bounded-at, bounded-take}
 use Rattle.rows.proofs.SmallestLaws.{smallest-inside, smallest-nonzero}
 use Rattle.rules.specs.Elimination.{stepBound}
-use Rattle.steps.specs.Shown.{tried, laterOf}
-use Rattle.turning.specs.Turned.{turned, listedTurn, turnedTables}
-use Rattle.closing.specs.Shut.{shut, listedShut, shutTables}
+use Rattle.steps.specs.Shown.{tried}
+use Rattle.turning.specs.Turned.{turnedTables, turnOf}
+use Rattle.closing.specs.Shut.{shutTables, shutOf}
 use Rattle.stepping.specs.Worked.{boundOf}
-use Rattle.stepping.proofs.Made.{firstStep, Steps, made-steps}
+use Rattle.stepping.proofs.Made.{Steps, made-steps}
 use Rattle.stepping.proofs.LeastBits.{bound-is, bound-small}
 use Rattle.stepping.proofs.Going.{comesTo, Long, Going}
 use Rattle.stepping.proofs.stepping.Tie as tie
@@ -110,9 +109,7 @@ more t = t .before .before .before .before .before .loop-test .taken
 
 -- what `turn` ensures of an answer
 pub told : (t : tie.After-turn Inv-loop μ-loop) (answer : Bool) → t .turn .result ≡ answer → let a = entry t .args in let l = head t .loop in let z = t .turn .last in
-    tried answer (turnedTables (a .n) (length (l .divisors)) (z .0) (z .1 .0) (z .1 .1 .0))
-    ≡ tried (allWithin (listedTurn (a .n) (firstStep (a .n) (l .rows)) (rowsOf (suc (a .n)) (length (l .divisors)) (l .rows)) (rowsOf (suc (a .n)) (a .n) (l .substitution)) (rowsOf (suc (a .n)) (a .n) (l .back))))
-    (turned (a .n) (firstStep (a .n) (l .rows)) (rowsOf (suc (a .n)) (length (l .divisors)) (l .rows)) (rowsOf (suc (a .n)) (a .n) (l .substitution)) (rowsOf (suc (a .n)) (a .n) (l .back)))
+    tried answer (turnedTables (a .n) (length (l .divisors)) (z .0) (z .1 .0) (z .1 .1 .0)) ≡ turnOf (a .n) (length (l .divisors)) (l .rows) (l .substitution) (l .back)
 told t answer e = rw e at (t .turn .ensures)
 
 pub long-turned : (t : tie.After-turn Inv-loop μ-loop) → let a = entry t .args in let l = head t .loop in let z = t .turn .last in
@@ -157,14 +154,12 @@ made s = turning (s .before .before .before .before .before .before .before .bef
 
 shut-told : (s : tie.After-close Inv-loop μ-loop) → let t = made s in let a = entry t .args in let l = head t .loop in let y = s .close .last in
     tried (s .close .result) (shutTables (a .n) (a .m) (y .0) (y .1 .0) (y .1 .1 .0) (y .1 .1 .1 .0) (y .1 .1 .1 .1 .0))
-    ≡ tried (allWithin (listedShut (l .k) (getD (l .divisors) 0 0) (scaled (lead t) (take (a .m) (l .multipliers))) (laterOf (a .n) (a .m) (t .turn .last .0) (l .multipliers) (l .divisors))))
-    (shut (l .k) (getD (l .divisors) 0 0) (scaled (lead t) (take (a .m) (l .multipliers))) (laterOf (a .n) (a .m) (t .turn .last .0) (l .multipliers) (l .divisors)) (l .marks) (rowsOf (suc (a .m)) (a .n) (l .reasons)))
+    ≡ shutOf (a .n) (a .m) (l .k) (lead t) (t .turn .last .0) (l .multipliers) (l .divisors) (l .marks) (l .reasons)
 shut-told s = rw (lead-back (made s)) at (s .close .ensures)
 
 pub shut-as : (s : tie.After-close Inv-loop μ-loop) (answer : Bool) → s .close .result ≡ answer → let t = made s in let a = entry t .args in let l = head t .loop in let y = s .close .last in
     tried answer (shutTables (a .n) (a .m) (y .0) (y .1 .0) (y .1 .1 .0) (y .1 .1 .1 .0) (y .1 .1 .1 .1 .0))
-    ≡ tried (allWithin (listedShut (l .k) (getD (l .divisors) 0 0) (scaled (lead t) (take (a .m) (l .multipliers))) (laterOf (a .n) (a .m) (t .turn .last .0) (l .multipliers) (l .divisors))))
-    (shut (l .k) (getD (l .divisors) 0 0) (scaled (lead t) (take (a .m) (l .multipliers))) (laterOf (a .n) (a .m) (t .turn .last .0) (l .multipliers) (l .divisors)) (l .marks) (rowsOf (suc (a .m)) (a .n) (l .reasons)))
+    ≡ shutOf (a .n) (a .m) (l .k) (lead t) (t .turn .last .0) (l .multipliers) (l .divisors) (l .marks) (l .reasons)
 shut-as s answer e =
     let a = entry (made s) .args in
     let y = s .close .last in
