@@ -16,9 +16,8 @@ use Rattle.whole.proofs.QuotientLaws.{quotient-remainder, remainder-small, rema
 use Rattle.whole.proofs.BitLengthLaws.{bitLength-half}
 use Rattle.rows.specs.Row.{at, gcdOf}
 use Rattle.rules.specs.Elimination.{stepOf, putIn, stepBound}
-use Rattle.rules.proofs.RowInHand.{column-below, lead-alive, lead-nonzero, lead-least}
 use Rattle.rules.proofs.Lengths.{length-putIn}
-use Rattle.rules.proofs.RowInHand.{coefficients-share, lead-stays, others-left, gcd-kept}
+use Rattle.rules.proofs.RowInHand.{column-below, lead-alive, lead-nonzero, lead-least, coefficients-share, lead-stays, others-left, gcd-kept}
 
 -- the row after its step, and the absolute value of its smallest coefficient
 abbrev next : ℕ → List ℤ → List ℤ

@@ -11,11 +11,6 @@ use Rattle.whole.proofs.Reify.{reify, ring}
 use Rattle.rows.specs.Row.{at, dot, values, zeros, unitRow, scaled, less, gathered}
 use Rattle.rows.specs.Table.{Wide}
 
-pub dot-no-point : (row : List ℤ) → dot row [] ≡ pos 0
-unfolding dot
-dot-no-point [] = refl
-dot-no-point (a ∷ row) = refl
-
 -- ---- a row less a multiple of another
 
 pub length-less : (row : List ℤ) (q : ℤ) (other : List ℤ) → length (less row q other) ≡ length row

@@ -41,7 +41,8 @@ abbrev pub turnOf : ℕ → ℕ → List ℤ → List ℤ → List ℤ → Tried
 turnOf n count rows substitution wayBack =
     turnBy n (stepOf n (take (suc n) rows)) (rowsOf (suc n) count rows) (rowsOf (suc n) n substitution) (rowsOf (suc n) n wayBack)
 
--- row k of the way back gains the rows as often as q says, and q's constant: the row, and the table with it or that it is beyond the limit
+-- row k of the way back gains the rows as often as q says, and q's constant: `wayBackRow` of a step with column k and quotients q. Then the
+-- table with it, or that it is beyond the limit
 abbrev pub returned : ℕ → ℕ → List ℤ → List ℤ → List ℤ
 returned n k q wayBack = gathered (getD (rowsOf (suc n) n wayBack) k []) q (rowsOf (suc n) n wayBack ++ unitRow (suc n) n ∷ [])
 

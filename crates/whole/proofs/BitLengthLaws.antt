@@ -34,10 +34,6 @@ unfolding bitLength
 leading k x h = counted k x ∙ enough k x x h (below-power x)
 
 -- ---- by halving
-pub bitLength-zero : bitLength 0 ≡ 0
-unfolding bitLength halvings
-bitLength-zero = refl
-
 pub bitLength-step : (x : ℕ) → 0 < x → bitLength x ≡ suc (bitLength (x / 2))
 unfolding bitLength halvings
 bitLength-step zero h = absurd (omega arith)

@@ -86,9 +86,6 @@ sfits-by {w} {z} x t = record { sfits = lt-of-le-of-lt (le-trans (mag-le z) (x .
 pub bound-by : {z : ℤ} {m : ℕ} (x : Bound z) → T (leb (x .n) m) → natAbs z ≤ m
 bound-by {z} {m} x t = le-trans (x .is) (leb→le (x .n) m t)
 
-pub below-by : {z : ℤ} {m : ℕ} (x : Bound z) → T (ltb (x .n) m) → natAbs z < m
-below-by {z} {m} x t = lt-of-le-of-lt (x .is) (ltb→lt (x .n) m t)
-
 -- an absolute value below 2 ^ 63 fits an i64
 pub fits-abs : (z : ℤ) → natAbs z < 9223372036854775808 → SFits w64 z
 fits-abs z h = record { sfits = lt-of-le-of-lt (mag-le z) h }
@@ -97,7 +94,3 @@ fits-abs z h = record { sfits = lt-of-le-of-lt (mag-le z) h }
 pub bits-pos : {w : Width} {b : ℤ} → SFits w b → (b ≡ pos 0 → ⊥) → 0 < ofZ w b
 bits-pos {w} {b = pos n} f h = pos-of-ne-zero (λ e. h (ap pos e))
 bits-pos {w} {b = negsuc n} f h = omega (arith, f .sfits, half w, big w)
-
-pub toZ-zero : (w : Width) (n : ℕ) → toZ w n ≡ pos 0 → n ≡ 0
-toZ-zero w n = sel-ind (ltb n (2 ^ hbits w)) (pos n) (negsuc (2 ^ bits w - suc n)) (λ z. z ≡ pos 0 → n ≡ 0)
-    (λ t e. cc) (λ t e. cc)

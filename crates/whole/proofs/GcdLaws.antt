@@ -61,9 +61,6 @@ gcd-zero-l b = gcd-comm 0 b ∙ gcd-zero-r b
 pub gcd-one-r : (a : ℕ) → gcd a 1 ≡ 1
 gcd-one-r a = eq-one-of-dvd-one (gcd-r a 1)
 
-pub gcd-one-l : (b : ℕ) → gcd 1 b ≡ 1
-gcd-one-l b = eq-one-of-dvd-one (gcd-l 1 b)
-
 -- one round of the loop, which goes on while the second number is not 0
 pub gcd-step : (a b : ℕ) → 0 < b → gcd b (a % b) ≡ gcd a b
 gcd-step a b h =

@@ -8,7 +8,7 @@ use native.Mathlib.Nat.{suc-ne-zero, zero-lt-suc, mul-zero, eq-of-mul-eq-mul-lef
 use native.Mathlib.Omega.{arith}
 use lib.Dec.{T, ltb, ltb→lt}
 use lib.IntN.{ℤ, pos, negsuc, sucℤ, predℤ, negℤ, subℕ, natAbs, _+ℤ_, _-ℤ_, _*ℤ_}
-use lib.IntN.{+ℤ-comm, +ℤ-assoc, +ℤ-idl, +ℤ-invr, +ℤ-negℤ-cancel, -ℤ-+ℤ-cancel, *ℤ-comm, zero-*ℤ, negℤ-negℤ, negℤ-+ℤ}
+use lib.IntN.{+ℤ-comm, +ℤ-assoc, +ℤ-idl, +ℤ-invr, -ℤ-+ℤ-cancel, *ℤ-comm, zero-*ℤ, negℤ-negℤ, negℤ-+ℤ}
 use lib.IntN.{sucℤ-+ℤ, predℤ-+ℤ, sucℤ-*ℤ, predℤ-*ℤ, negℤ-sucℤ, negℤ-predℤ}
 
 -- every integer is reached from 0 by steps up or by steps down
@@ -41,9 +41,6 @@ negℤ-*ℤ a b =
     (λ k h. rw (negℤ-predℤ k, sucℤ-*ℤ (negℤ k) b, predℤ-*ℤ k b, h, negℤ-+ℤ (k *ℤ b) (negℤ b), negℤ-negℤ b))
     a
 
-pub *ℤ-negℤ : (a b : ℤ) → a *ℤ negℤ b ≡ negℤ (a *ℤ b)
-*ℤ-negℤ a b = *ℤ-comm a (negℤ b) ∙ negℤ-*ℤ b a ∙ ap negℤ (*ℤ-comm b a)
-
 pub *ℤ-assoc : (a b c : ℤ) → (a *ℤ b) *ℤ c ≡ a *ℤ (b *ℤ c)
 *ℤ-assoc a b c =
     ind (λ a. (a *ℤ b) *ℤ c ≡ a *ℤ (b *ℤ c))
@@ -57,13 +54,6 @@ pub *ℤ-left-comm : (a b c : ℤ) → a *ℤ (b *ℤ c) ≡ b *ℤ (a *ℤ c)
 
 pub *ℤ-distr-sub-r : (a b c : ℤ) → (a -ℤ b) *ℤ c ≡ a *ℤ c -ℤ b *ℤ c
 *ℤ-distr-sub-r a b c = *ℤ-distr-r a (negℤ b) c ∙ ap (λ x. a *ℤ c +ℤ x) (negℤ-*ℤ b c)
-
-pub *ℤ-distr-sub-l : (a b c : ℤ) → a *ℤ (b -ℤ c) ≡ a *ℤ b -ℤ a *ℤ c
-*ℤ-distr-sub-l a b c = *ℤ-distr-l a b (negℤ c) ∙ ap (λ x. a *ℤ b +ℤ x) (*ℤ-negℤ a c)
-
--- ---- cancelling a summand
-pub +ℤ-cancel-r : {a b : ℤ} (c : ℤ) → a +ℤ c ≡ b +ℤ c → a ≡ b
-+ℤ-cancel-r {a} {b} c e = sym (+ℤ-negℤ-cancel a c) ∙ ap (λ x. x -ℤ c) e ∙ +ℤ-negℤ-cancel b c
 
 pub -ℤ-zero : {a b : ℤ} → a -ℤ b ≡ pos 0 → a ≡ b
 -ℤ-zero {a} {b} e = sym (-ℤ-+ℤ-cancel a b) ∙ ap (λ x. x +ℤ b) e ∙ +ℤ-idl b

@@ -1,21 +1,15 @@
 -- What `within` says: that the absolute value does not pass W. And what the two tests of the code tell of it.
 use mathlib.Core.Path.{_≡_, refl, sym}
 use mathlib.Core.Bool.{true, false}
-use Prim.Native.Nat.{ℕ, suc, _≤_, _<_}
+use Prim.Native.Nat.{ℕ, suc, _≤_}
 use native.Mathlib.Omega.{arith}
-use borrow.Author.Tests.{ltb-true, ltb-false, leb-true, leb-false, lt-leb, le-leb}
+use borrow.Author.Tests.{ltb-true, ltb-false, leb-true, lt-leb, le-leb}
 use lib.IntN.{ℤ, pos, negsuc, natAbs}
 use lib.Signed.{ltZ, leZ}
 use Rattle.whole.specs.Limit.{W, within}
 
 pub within-true : (z : ℤ) → within z ≡ true → natAbs z ≤ W
 within-true z e = leb-true (natAbs z) W e
-
-pub within-false : (z : ℤ) → within z ≡ false → W < natAbs z
-within-false z e = leb-false (natAbs z) W e
-
-pub true-within : (z : ℤ) → natAbs z ≤ W → within z ≡ true
-true-within z h = le-leb (natAbs z) W h
 
 -- below -W
 pub below-limit : (z : ℤ) → ltZ z (negsuc 268435454) ≡ true → false ≡ within z

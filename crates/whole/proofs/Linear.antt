@@ -5,9 +5,9 @@ use mathlib.Core.Path.{_≡_, refl, sym, ap, ap₂, _∙_}
 use mathlib.Core.List.{List, [], _∷_}
 use Prim.Native.Nat.{ℕ, _+_, _*_, _≤_, _<_}
 use native.Mathlib.Omega.{arith}
-use lib.IntN.{ℤ, pos, negℤ, natAbs, _+ℤ_, _-ℤ_, _*ℤ_}
+use lib.IntN.{ℤ, pos, negℤ, _+ℤ_, _-ℤ_, _*ℤ_}
 use lib.Signed.{_≤ℤ_, _<ℤ_}
-use Rattle.whole.proofs.Order.{pz, nz, le-nat, nat-le, lt-nat, nat-lt, eq-nat, nat-eq, sub, abs}
+use Rattle.whole.proofs.Order.{pz, nz, le-nat, nat-le, lt-nat, nat-lt, eq-nat, nat-eq, sub}
 use Rattle.whole.proofs.Ring.{E, var, con, _⊕_, _⊗_, _⊖_, neg, at, eval}
 use Rattle.whole.proofs.Reify.{Is, reify, ring}
 
@@ -64,7 +64,3 @@ module _ (ρ : List ℤ) where
 
   pub eq-on : {a b : ℤ} (x : Is ρ a) (y : Is ρ b) → a ≡ b → PN ρ (x .e) .0 + PN ρ (y .e) .1 ≡ PN ρ (y .e) .0 + PN ρ (x .e) .1
   eq-on x y h = omega (arith, eq-nat h, pn x, pn y)
-
-  -- a bound of the absolute value
-  pub abs-by : (z : ℤ) {m : ℕ} (x : Is ρ z) → (PN ρ (x .e) .0 ≤ m + PN ρ (x .e) .1) × (PN ρ (x .e) .1 ≤ m + PN ρ (x .e) .0) → natAbs z ≤ m
-  abs-by z {m} x h = omega (arith, pn x, abs z)

@@ -5,7 +5,7 @@ use mathlib.Core.Path.{_≡_, refl, sym, ap, _∙_, subst}
 use mathlib.Core.Bool.{true, false, not}
 use Prim.Native.Nat.{ℕ, zero, suc, _+_, _-_, _≤_, _<_, min}
 use native.Mathlib.Omega.{arith}
-use lib.Dec.{T, ltb, leb→le, le→leb, ltb→lt, lt→ltb, nltb→le, nleb→lt}
+use lib.Dec.{T, ltb, leb→le, le→leb, ltb→lt, lt→ltb, nltb→le}
 use lib.IntN.{ℤ, pos, negsuc, negℤ, subℕ, natAbs, _+ℤ_, _-ℤ_}
 use lib.Signed.{leZ, ltZ, _≤ℤ_, _<ℤ_, ltZ-no}
 use Rattle.whole.proofs.Integers.{cond-ind}
@@ -101,18 +101,6 @@ lt-true a b e = record { lt = subst T (sym e) tt }
 
 pub lt-false : (a b : ℤ) → ltZ a b ≡ false → b ≤ℤ a
 lt-false a b e = ltZ-no (subst (λ c. T (not c)) (sym e) tt)
-
-pub le-true : (a b : ℤ) → leZ a b ≡ true → a ≤ℤ b
-le-true a b e = record { le = subst T (sym e) tt }
-
-not-le : (a b : ℤ) → T (not (leZ a b)) → T (ltZ b a)
-not-le (pos a) (pos b) t = omega (arith, lt→ltb, nleb→lt)
-not-le (pos a) (negsuc b) t = tt
-not-le (negsuc a) (pos b) t = absurd t
-not-le (negsuc a) (negsuc b) t = omega (arith, lt→ltb, nleb→lt)
-
-pub le-false : (a b : ℤ) → leZ a b ≡ false → b <ℤ a
-le-false a b e = record { lt = not-le a b (subst (λ c. T (not c)) (sym e) tt) }
 
 -- ---- a number and its absolute value, by its sign
 pub abs-nonneg : (a : ℤ) → pos 0 ≤ℤ a → a ≡ pos (natAbs a)

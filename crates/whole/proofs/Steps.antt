@@ -5,7 +5,7 @@ use mathlib.Core.Path.{_≡_, refl, sym, ap, ap₂, _∙_, subst}
 use mathlib.Core.Bool.{Bool, true, false}
 use Prim.Native.Nat.{ℕ, _+_, _*_, _≤_, _^_}
 use native.Mathlib.Nat.{le-refl, le-trans, le-of-eq, add-le-add, mul-le-mul, lt-of-le-of-lt}
-use lib.Dec.{T, ltb, leb, ltb→lt, leb→le}
+use lib.Dec.{T, ltb, ltb→lt}
 use lib.IntN.{ℤ, pos, negℤ, natAbs, _+ℤ_, _-ℤ_, _*ℤ_}
 use lib.Signed.{quotZ, remZ}
 use mir.Syntax.{Width}
@@ -100,13 +100,3 @@ fits-by {w} x t =
 -- that a result is what the contract says
 pub read-by : {z : ℤ} (x : Read z) → T (x .ok) → z ≡ x .val
 read-by x t = x .is t
-
--- that what the code computes has a bound
-pub top-by : (z : ℤ) {m : ℕ} (x : Read z) → T (x .ok and leb (x .top) m) → natAbs z ≤ m
-top-by z {m} x t =
-    let small = leb (x .top) m in
-    rw (x .is (and-l (x .ok) small t)) (le-trans (x .within) (leb→le (x .top) m (and-r (x .ok) small t)))
-
--- that two expressions of the code come to the same
-pub same-by : {a b : ℤ} (x : Read a) (y : Read b) → T (x .ok and y .ok) → x .val ≡ y .val → a ≡ b
-same-by x y t e = x .is (and-l (x .ok) (y .ok) t) ∙ e ∙ sym (y .is (and-r (x .ok) (y .ok) t))

@@ -3,11 +3,11 @@ use mathlib.Core.Path.{_≡_, sym, ap, ap₂, _∙_}
 use mathlib.Core.Bool.{true, false}
 use Prim.Native.Nat.{_<_, _^_}
 use lib.IntN.{ℤ, pos}
-use lib.Signed.{mag, leZ, ltZ, _≤ℤ_, _<ℤ_}
+use lib.Signed.{mag, ltZ, _≤ℤ_, _<ℤ_}
 use mir.Syntax.{Width, w64}
 use mir.Val.{SFits, hbits, toZ, ofZ}
 use mir.Facts.{toZ-ofZ}
-use Rattle.whole.proofs.Order.{lt-true, lt-false, le-true, le-false}
+use Rattle.whole.proofs.Order.{lt-true, lt-false}
 
 module _ {w : Width} {a b : ℤ} (f : SFits w a) (g : SFits w b) where
   pub lt-taken : ltZ (toZ w (ofZ w a)) (toZ w (ofZ w b)) ≡ true → a <ℤ b
@@ -15,12 +15,6 @@ module _ {w : Width} {a b : ℤ} (f : SFits w a) (g : SFits w b) where
 
   pub lt-left : ltZ (toZ w (ofZ w a)) (toZ w (ofZ w b)) ≡ false → b ≤ℤ a
   lt-left e = lt-false a b (sym (ap₂ ltZ (toZ-ofZ f) (toZ-ofZ g)) ∙ e)
-
-  pub le-taken : leZ (toZ w (ofZ w a)) (toZ w (ofZ w b)) ≡ true → a ≤ℤ b
-  le-taken e = le-true a b (sym (ap₂ leZ (toZ-ofZ f) (toZ-ofZ g)) ∙ e)
-
-  pub le-left : leZ (toZ w (ofZ w a)) (toZ w (ofZ w b)) ≡ false → b <ℤ a
-  le-left e = le-false a b (sym (ap₂ leZ (toZ-ofZ f) (toZ-ofZ g)) ∙ e)
 
 -- an element that was read, `back z (c .x .given)`, or the result of a call, `back r (c .f .ok)`
 pub back : (z : ℤ) → mag z < 2 ^ hbits w64 → toZ w64 (ofZ w64 z) ≡ z
