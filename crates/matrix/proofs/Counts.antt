@@ -16,8 +16,8 @@ use Rattle.matrix.specs.Reader.{isStart, isReturn, isDead, countsFit, be
 use Rattle.matrix.specs.declared.Machine.{Machine}
 use Rattle.matrix.specs.declared.Phase.{Phase}
 use Rattle.matrix.specs.declared.Phase.the-variants.{Start, Lead, Marked, Signed, Digits, Gap, Return, Comment, Dead}
-use Rattle.matrix.specs.declared.Reading.{Reading}
-use Rattle.matrix.specs.declared.Reading.the-variants.{System, Unread}
+use Rattle.rules.specs.declared.Reading.{Reading}
+use Rattle.rules.specs.declared.Reading.the-variants.{System, Unread}
 
 -- "n variables, 1..32; m equations, 0..32; k inequalities, 0..64", where a system is answered
 abbrev pub Counted : Reading → Type 0

@@ -9,7 +9,8 @@ use lib.IntN.{ℤ, pos, negℤ, natAbs}
 use lib.Signed.{ltZ}
 use Rattle.rows.specs.Row.{zeros}
 use Rattle.rows.specs.Table.{rowsOf}
-use Rattle.rules.specs.Outcomes.{numberOf, fieldsOf, Results}
+use Rattle.rules.specs.Outcomes.{Results}
+use Rattle.rules.specs.Numbers.{ofRefusal}
 use Rattle.rules.specs.declared.Refusal.{Refusal}
 use Rattle.rules.specs.declared.Refusal.the-variants.{OutOfRange, WrongLength, BadEntry, TooLarge, LargeSum, Malformed, LongText}
 use Rattle.rules.specs.declared.Outcome.{Outcome}
@@ -20,6 +21,7 @@ use Rattle.matrix.specs.Printed.{
   decimal,
   signed,
   spacedBy,
+  listed,
   error,
   equationLetter,
   multiplied,
@@ -74,20 +76,24 @@ spaced-short show b h (a ∷ l) =
     simp length-append (omega (arith, h a, spaced-short show b h l))
 
 -- ---- refusals and names
-fields-short : (r : Refusal) → length (fieldsOf r) ≤ 3
-unfolding fieldsOf
-fields-short OutOfRange = omega arith
-fields-short WrongLength = omega arith
-fields-short (BadEntry table row column) = omega arith
-fields-short (TooLarge row steps) = omega arith
-fields-short (LargeSum inequality) = omega arith
-fields-short (Malformed place) = omega arith
-fields-short LongText = omega arith
+listed-short : (l : List ℕ) → length (listed l) ≤ length l * 21
+unfolding listed
+listed-short [] = omega arith
+listed-short (x ∷ l) = simp length-append (omega (arith, decimal-short x, spaced-short decimal 20 decimal-short l))
 
-error-short : (r : Refusal) → length (error r) ≤ 94
+numbers-short : (r : Refusal) → length (ofRefusal r) ≤ 4
+unfolding ofRefusal
+numbers-short OutOfRange = omega arith
+numbers-short WrongLength = omega arith
+numbers-short (BadEntry table row column) = omega arith
+numbers-short (TooLarge row steps) = omega arith
+numbers-short (LargeSum inequality) = omega arith
+numbers-short (Malformed place) = omega arith
+numbers-short LongText = omega arith
+
+error-short : (r : Refusal) → length (error r) ≤ 95
 unfolding error
-error-short r =
-    simp length-append (omega (arith, decimal-short (numberOf r), fields-short r, spaced-short decimal 20 decimal-short (fieldsOf r)))
+error-short r = simp length-append (omega (arith, numbers-short r, listed-short (ofRefusal r)))
 
 multiplied-short : (before j : ℕ) (l : List ℤ) → length (multiplied before j l) ≤ length l * 22
 unfolding multiplied

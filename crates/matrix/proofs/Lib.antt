@@ -6,3 +6,4 @@ pub mod Joined
 pub mod Spaced
 pub mod Length
 pub mod Numerals
+pub mod Replies

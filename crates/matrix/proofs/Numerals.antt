@@ -8,14 +8,8 @@ use native.Mathlib.Omega.{arith}
 use borrow.Author.Tests.{ltb-true}
 use lib.Dec.{ltb}
 use Rattle.matrix.specs.Bytes.{digitByte}
-use Rattle.matrix.specs.Grammar.{AllDigits, said}
+use Rattle.matrix.specs.Grammar.{AllDigits, said, Numeral}
 use Rattle.matrix.specs.Printed.{decimalIn, decimal}
-
-pub record Numeral (x : ℕ) (bytes : List ℕ) : Type 0 where
-  pub digits : List ℕ
-  pub each : AllDigits digits
-  pub shown : bytes ≡ map digitByte digits
-  pub says : said 0 digits ≡ x
 
 -- ---- one digit more, at the end
 

@@ -27,6 +27,13 @@ unfoldable pub said : ℕ → List ℕ → ℕ
 said before [] = before
 said before (d ∷ digits) = said (before * 10 + d) digits
 
+-- the digits that say a number
+pub record Numeral (value : ℕ) (bytes : List ℕ) : Type 0 where
+  pub digits : List ℕ
+  pub each : AllDigits digits
+  pub shown : bytes ≡ map digitByte digits
+  pub says : said 0 digits ≡ value
+
 -- "1 to 10 digits"
 pub record Count (value : ℕ) (bytes : List ℕ) : Type 0 where
   pub digits : List ℕ

@@ -5,3 +5,4 @@ pub mod Reader
 pub mod Grammar
 pub mod Poured
 pub mod Printed
+pub mod Program

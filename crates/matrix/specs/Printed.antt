@@ -8,7 +8,8 @@ use lib.IntN.{ℤ, pos, negℤ, natAbs}
 use lib.Signed.{ltZ}
 use Rattle.rows.specs.Row.{zeros}
 use Rattle.rows.specs.Table.{rowsOf}
-use Rattle.rules.specs.Outcomes.{numberOf, fieldsOf, Results}
+use Rattle.rules.specs.Outcomes.{Results}
+use Rattle.rules.specs.Numbers.{ofRefusal}
 use Rattle.rules.specs.declared.Refusal.{Refusal}
 use Rattle.rules.specs.declared.Outcome.{Outcome}
 use Rattle.rules.specs.declared.Outcome.the-variants.{Open, EquationConflict, OneRowConflict, TwoRowConflict, Refused}
@@ -45,13 +46,17 @@ spaced numbers = spacedBy signed numbers
 abbrev pub spacedFields : List ℕ → List ℕ
 spacedFields fields = spacedBy decimal fields
 
+-- the first with nothing before it
+unfoldable pub listed : List ℕ → List ℕ
+unfolding decimal spacedBy
+listed [] = []
+listed (x ∷ more) = decimal x ++ spacedFields more
+
 -- ---- "A refusal prints `(error "4 1 0")`: number, then fields."
 
 unfoldable pub error : Refusal → List ℕ
-unfolding decimal spacedBy numberOf fieldsOf
-error r =
-    (40 ∷ 101 ∷ 114 ∷ 114 ∷ 111 ∷ 114 ∷ 32 ∷ 34 ∷ [])
-    ++ (decimal (numberOf r) ++ (spacedFields (fieldsOf r) ++ (34 ∷ 41 ∷ lineFeed ∷ [])))
+unfolding listed ofRefusal
+error r = (40 ∷ 101 ∷ 114 ∷ 114 ∷ 111 ∷ 114 ∷ 32 ∷ 34 ∷ []) ++ (listed (ofRefusal r) ++ (34 ∷ 41 ∷ lineFeed ∷ []))
 
 -- ---- "After `unsat`, one line with the names in use ..., each name once, lowest number first in each group."
 

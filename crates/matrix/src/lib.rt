@@ -1,5 +1,4 @@
-// The PolyLib text of document 01, "Text in and out": what the reader keeps from byte to byte, and what it answers.
-use rules::Refusal;
+// The PolyLib text of document 01, "Text in and out": what the reader keeps from byte to byte.
 
 // The classes that a byte can have.
 pub enum Class {
@@ -52,10 +51,4 @@ pub struct Machine {
     // the rows of each kind that have begun
     pub equations: usize,
     pub inequalities: usize,
-}
-
-// What the reader answers.
-pub enum Reading {
-    System { n: usize, m: usize, k: usize },
-    Unread(Refusal),
 }

@@ -1,7 +1,7 @@
 -- The five numbers tell the whole answer: it can be had back from them, so two answers with the same numbers are the same.
 use mathlib.Core.Path.{_≡_, refl, sym, ap, _∙_}
 use mathlib.Core.Bool.{cond}
-use mathlib.Core.List.{List}
+use mathlib.Core.List.{List, _∷_}
 use Prim.Native.Nat.{ℕ}
 use lib.Dec.{eqb}
 use lib.ListN.{getD}
@@ -11,9 +11,10 @@ use Rattle.rules.specs.declared.Outcome.{Outcome}
 use Rattle.rules.specs.declared.Outcome.the-variants.{Open, EquationConflict, OneRowConflict, TwoRowConflict, Refused}
 use Rattle.rules.specs.declared.Verdict.{Verdict}
 use Rattle.rules.specs.declared.Verdict.the-variants.{Yes, No, NotChecked}
-use Rattle.matrix.specs.declared.Reading.{Reading}
-use Rattle.matrix.specs.declared.Reading.the-variants.{System, Unread}
-use Rattle.numbers.specs.Numbers.{ofRefusal, ofOutcome, ofVerdict, ofReading}
+use Rattle.rules.specs.declared.Reading.{Reading}
+use Rattle.rules.specs.declared.Reading.the-variants.{System, Unread}
+use Rattle.rules.specs.Numbers.{ofRefusal, ofOutcome, ofVerdict, ofReading}
+use Rattle.numbers.specs.Numbers.{five}
 
 -- ---- what the numbers say
 
@@ -44,8 +45,8 @@ toReading l = cond (eqb (place 0 l) 0) (System (place 1 l) (place 2 l) (place 3 
 
 -- ---- it is what was put into them
 
-refusal-told : (r : Refusal) → toRefusal (ofRefusal r) ≡ r
-unfolding ofRefusal toRefusal
+refusal-told : (r : Refusal) → toRefusal (five (4 ∷ ofRefusal r)) ≡ r
+unfolding five ofRefusal toRefusal
 refusal-told OutOfRange = refl
 refusal-told WrongLength = refl
 refusal-told (BadEntry table row column) = refl
@@ -54,30 +55,30 @@ refusal-told (LargeSum inequality) = refl
 refusal-told (Malformed at) = refl
 refusal-told LongText = refl
 
-outcome-told : (o : Outcome) → toOutcome (ofOutcome o) ≡ o
-unfolding ofOutcome toOutcome
+outcome-told : (o : Outcome) → toOutcome (five (ofOutcome o)) ≡ o
+unfolding five ofOutcome toOutcome
 outcome-told (Open steps) = refl
 outcome-told (EquationConflict row steps) = refl
 outcome-told (OneRowConflict i steps) = refl
 outcome-told (TwoRowConflict i j steps) = refl
 outcome-told (Refused r) = ap Refused (refusal-told r)
 
-verdict-told : (v : Verdict) → toVerdict (ofVerdict v) ≡ v
-unfolding ofVerdict toVerdict
+verdict-told : (v : Verdict) → toVerdict (five (ofVerdict v)) ≡ v
+unfolding five ofVerdict toVerdict
 verdict-told No = refl
 verdict-told Yes = refl
 verdict-told (NotChecked r) = ap NotChecked (refusal-told r)
 
-reading-told : (r : Reading) → toReading (ofReading r) ≡ r
-unfolding ofReading toReading
+reading-told : (r : Reading) → toReading (five (ofReading r)) ≡ r
+unfolding five ofReading toReading
 reading-told (System n m k) = refl
 reading-told (Unread r) = ap Unread (refusal-told r)
 
-pub same-outcome : (a b : Outcome) → ofOutcome a ≡ ofOutcome b → a ≡ b
+pub same-outcome : (a b : Outcome) → five (ofOutcome a) ≡ five (ofOutcome b) → a ≡ b
 same-outcome a b h = sym (outcome-told a) ∙ ap toOutcome h ∙ outcome-told b
 
-pub same-verdict : (a b : Verdict) → ofVerdict a ≡ ofVerdict b → a ≡ b
+pub same-verdict : (a b : Verdict) → five (ofVerdict a) ≡ five (ofVerdict b) → a ≡ b
 same-verdict a b h = sym (verdict-told a) ∙ ap toVerdict h ∙ verdict-told b
 
-pub same-reading : (a b : Reading) → ofReading a ≡ ofReading b → a ≡ b
+pub same-reading : (a b : Reading) → five (ofReading a) ≡ five (ofReading b) → a ≡ b
 same-reading a b h = sym (reading-told a) ∙ ap toReading h ∙ reading-told b

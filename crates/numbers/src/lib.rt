@@ -2,9 +2,11 @@
 ghost use mathlib.Core.Path.{_≡_};
 ghost use mathlib.Core.List.{[], _∷_};
 ghost use lib.ListN.{length};
-ghost use Rattle.numbers.specs.Numbers.{ofRefusal, ofOutcome, ofVerdict, ofReading};
-use matrix::Reading;
+ghost use Rattle.matrix.specs.Poured.{poured};
+ghost use Rattle.numbers.specs.Numbers.{five, fourOf};
+ghost use Rattle.rules.specs.Numbers.{ofRefusal, ofOutcome, ofVerdict, ofReading};
 use rules::Outcome;
+use rules::Reading;
 use rules::Refusal;
 use rules::Verdict;
 
@@ -25,24 +27,53 @@ fn put(into: &mut [u64], kind: u64, a: usize, b: usize, c: usize, d: usize)
     into[4] = wide(d);
 }
 
-fn put_refusal(into: &mut [u64], refusal: Refusal)
-    requires { ⌜ length (now into) ≡ 5 ⌝ }
-    ensures { λ _. ⌜ now (into .exit) ≡ ofRefusal refusal ⌝ }
+// What a refusal carries: its number, then its fields, `count` in all, and zeros behind.
+pub struct Carried {
+    pub count: usize,
+    pub number: usize,
+    pub first: usize,
+    pub second: usize,
+    pub third: usize,
+}
+
+fn carry(count: usize, number: usize, first: usize, second: usize, third: usize) -> Carried
+    ensures { λ r. ⌜ (r .count ≡ count) × (fourOf r ≡ number ∷ first ∷ second ∷ third ∷ []) ⌝ }
+{
+    Carried {
+        count,
+        number,
+        first,
+        second,
+        third,
+    }
+}
+
+// The one place where a refusal gets its number.
+pub fn of_refusal(refusal: Refusal) -> Carried
+    ensures { λ r. ⌜ (r .count ≡ length (ofRefusal refusal)) × (fourOf r ≡ poured (ofRefusal refusal) (0 ∷ 0 ∷ 0 ∷ 0 ∷ [])) ⌝ }
 {
     match refusal {
-        Refusal::OutOfRange => put(into, 4, 1, 0, 0, 0),
-        Refusal::WrongLength => put(into, 4, 2, 0, 0, 0),
-        Refusal::BadEntry { table, row, column } => put(into, 4, 3, table, row, column),
-        Refusal::TooLarge { row, steps } => put(into, 4, 4, row, steps, 0),
-        Refusal::LargeSum { inequality } => put(into, 4, 5, inequality, 0, 0),
-        Refusal::Malformed { place } => put(into, 4, 6, place, 0, 0),
-        Refusal::LongText => put(into, 4, 7, 0, 0, 0),
+        Refusal::OutOfRange => carry(1, 1, 0, 0, 0),
+        Refusal::WrongLength => carry(1, 2, 0, 0, 0),
+        Refusal::BadEntry { table, row, column } => carry(4, 3, table, row, column),
+        Refusal::TooLarge { row, steps } => carry(3, 4, row, steps, 0),
+        Refusal::LargeSum { inequality } => carry(2, 5, inequality, 0, 0),
+        Refusal::Malformed { place } => carry(2, 6, place, 0, 0),
+        Refusal::LongText => carry(1, 7, 0, 0, 0),
     }
+}
+
+fn put_refusal(into: &mut [u64], refusal: Refusal)
+    requires { ⌜ length (now into) ≡ 5 ⌝ }
+    ensures { λ _. ⌜ now (into .exit) ≡ five (4 ∷ ofRefusal refusal) ⌝ }
+{
+    let r = of_refusal(refusal);
+    put(into, 4, r.number, r.first, r.second, r.third)
 }
 
 pub fn put_outcome(into: &mut [u64], outcome: Outcome)
     requires { ⌜ length (now into) ≡ 5 ⌝ }
-    ensures { λ _. ⌜ now (into .exit) ≡ ofOutcome outcome ⌝ }
+    ensures { λ _. ⌜ now (into .exit) ≡ five (ofOutcome outcome) ⌝ }
 {
     match outcome {
         Outcome::Open { steps } => put(into, 0, steps, 0, 0, 0),
@@ -55,7 +86,7 @@ pub fn put_outcome(into: &mut [u64], outcome: Outcome)
 
 pub fn put_verdict(into: &mut [u64], verdict: Verdict)
     requires { ⌜ length (now into) ≡ 5 ⌝ }
-    ensures { λ _. ⌜ now (into .exit) ≡ ofVerdict verdict ⌝ }
+    ensures { λ _. ⌜ now (into .exit) ≡ five (ofVerdict verdict) ⌝ }
 {
     match verdict {
         Verdict::No => put(into, 0, 0, 0, 0, 0),
@@ -66,7 +97,7 @@ pub fn put_verdict(into: &mut [u64], verdict: Verdict)
 
 pub fn put_reading(into: &mut [u64], reading: Reading)
     requires { ⌜ length (now into) ≡ 5 ⌝ }
-    ensures { λ _. ⌜ now (into .exit) ≡ ofReading reading ⌝ }
+    ensures { λ _. ⌜ now (into .exit) ≡ five (ofReading reading) ⌝ }
 {
     match reading {
         Reading::System { n, m, k } => put(into, 0, n, m, k, 0),

@@ -1,28 +1,11 @@
-// Reads one system from standard input and prints the outcome: one call, one write.
+// Reads one system from standard input and prints the outcome: one call, one write. Where something could not be read or written, a line
+// on standard error says so, and after a failed read nothing is printed.
 ghost use mathlib.Core.Path.{_≡_};
 ghost use lib.ListN.{length};
-
-mod answer;
-
+use libc::STDERR_FILENO;
 use libc::STDIN_FILENO;
 use libc::STDOUT_FILENO;
-
-// Reads what is left of a text that is too long, and keeps nothing of it; whether there may be more.
-fn skip() -> bool {
-    let mut space = io::large_buffer();
-    io::read_full(STDIN_FILENO, &mut space) == 65536
-}
-
-// To the end of the standard input, or past 16 petabytes of it.
-fn skip_all() {
-    let mut turns = 0u64;
-    while turns < 274877906944 {
-        if !skip() {
-            return;
-        }
-        turns += 1;
-    }
-}
+use streams::Text;
 
 // One byte more than the longest text, so that a longer one is seen.
 fn text_room() -> [u8; 65537]
@@ -37,13 +20,27 @@ fn page_room() -> [u8; 98304]
     [0; 98304]
 }
 
-fn main() {
-    let mut text = text_room();
-    let length = io::read_full(STDIN_FILENO, &mut text);
-    if length > 65536 {
-        skip_all();
-    }
+fn reply(text: &[u8]) {
     let mut page = page_room();
-    let size = answer::answer(&text[..length], &mut page);
-    io::write_all(STDOUT_FILENO, &page[..size]);
+    let size = answering::answer(text, &mut page);
+    if !io::write_all(STDOUT_FILENO, &page[..size]) {
+        io::write_all(
+            STDERR_FILENO,
+            b"plassobine: standard output could not be written\n",
+        );
+    }
+}
+
+fn main() {
+    let mut room = text_room();
+    let text = streams::read_text(STDIN_FILENO, &mut room);
+    match text {
+        Text::Whole(length) => reply(&room[..length]),
+        Text::Unreadable => {
+            io::write_all(
+                STDERR_FILENO,
+                b"plassobine: standard input could not be read\n",
+            );
+        }
+    }
 }

@@ -1,246 +1,33 @@
 -- The promises of a whole call: what each outcome says, with the result tables, is so.
-use mathlib.Core.Path.{_≡_, refl, sym, ap, ap₂, _∙_, subst}
+use mathlib.Core.Path.{_≡_, refl}
 use mathlib.Core.Logic.{_↔_}
-use mathlib.Core.Bool.{Bool, true, false, not}
-use mathlib.Core.List.{List, [], _∷_, map}
-use Prim.Native.Nat.{ℕ, suc, _*_, _-_, _<_}
+use mathlib.Core.Bool.{Bool, true, false}
+use mathlib.Core.List.{List}
+use Prim.Native.Nat.{ℕ, suc}
 use native.Mathlib.Omega.{arith}
-use borrow.Author.Tests.{eqb-true, eqb-false}
-use lib.Dec.{eqb}
-use lib.ListN.{length, length-map}
 use lib.IntN.{ℤ}
 use Rattle.rows.specs.Row.{allWithin}
-use Rattle.rows.specs.Table.{rowsOf, flat, Wide}
-use Rattle.rows.proofs.Bounded.{and-left, and-right}
-use Rattle.rows.proofs.TableLaws.{rowsOf-flat, length-rowsOf, wide-rowsOf, row-of, length-rowAt}
-use Rattle.rules.specs.declared.Refusal.the-variants.{OutOfRange, WrongLength, LargeSum}
-use Rattle.rules.specs.declared.Outcome.{Outcome}
-use Rattle.rules.specs.declared.Outcome.the-variants.{Open, EquationConflict, OneRowConflict, TwoRowConflict, Refused}
-use Rattle.rules.specs.Elimination.{State, Ended, finished, conflicting, tooLarge, elimination}
-use Rattle.rules.specs.Inequalities.{sums, usedBy, tightenedRow, firstRow, alone, against, firstPair}
-use Rattle.rules.specs.Outcomes.{Results, badEntry, blank, inRange, rightLengths, allFilled, conflictFilled, lookedAt, withInequalities, afterRun, solve}
-use Rattle.promises.specs.Meaning.{Meets, Satisfies, SatisfiesSet}
-use Rattle.promises.specs.Solutions.{Solved, Unsolvable}
-use Rattle.promises.specs.Rows.{Tightened}
-use Rattle.promises.specs.Answers.{rowNumber, setNumber, Counts, shown, Filled, OneRowUnmet, TwoRowsUnmet, EquationsUnmet, Says, Promised, SaysUnmet, IsRefused}
-use Rattle.promises.proofs.Runs.{Held, Right, run-right}
-use Rattle.promises.proofs.Solved.{solved, refuted, unsolvable, solvable}
-use Rattle.promises.proofs.Tight.{length-tightened}
-use Rattle.promises.proofs.Tightened.{tightened}
-use Rattle.promises.proofs.Pairs.{one-row, two-rows}
-use Rattle.promises.proofs.AnswersLong.{LongEnded, run-long}
-use Rattle.promises.proofs.AnswersWithin.{SmallEnded, run-small}
-use Rattle.promises.proofs.AnswersFound.{map-at, holds-at, meets-at, first-row, first-pair}
-use Rattle.promises.proofs.AnswersYes.{says-yes}
-
--- the rows of a flat table that was made of rows
-rows-back : (width count : ℕ) (rows : List (List ℤ)) → length rows ≡ count → Wide width rows → rowsOf width count (flat rows) ≡ rows
-rows-back width count rows l w = subst (λ c. rowsOf width c (flat rows) ≡ rows) l (rowsOf-flat width rows w)
-
-wide-tightened : (n : ℕ) (s : State) (inequalities : List (List ℤ)) → Wide (suc n) (map (tightenedRow n s) inequalities)
-wide-tightened n s [] = tt
-wide-tightened n s (inequality ∷ inequalities) = (length-tightened n s inequality, wide-tightened n s inequalities)
-
-module _ (n m k : ℕ) (equations inequalities : List ℤ) (e-long : length equations ≡ m * suc n) (i-long : length inequalities ≡ k * suc n) where
-  -- the input tables as rows
-  E : List (List ℤ)
-  E = rowsOf (suc n) m equations
-
-  I : List (List ℤ)
-  I = rowsOf (suc n) k inequalities
-
-  long-E : length E ≡ m
-  unfolding E
-  long-E = length-rowsOf (suc n) m equations
-
-  wide-E : Wide (suc n) E
-  unfolding E
-  wide-E = wide-rowsOf (suc n) m equations e-long
-
-  long-I : length I ≡ k
-  unfolding I
-  long-I = length-rowsOf (suc n) k inequalities
-
-  long-inequality : (i : ℕ) → Counts i k → length (rowNumber i I) ≡ suc n
-  unfolding I
-  long-inequality i c =
-      let inside : i - 1 < k = omega arith in
-      ap length (row-of (suc n) k (i - 1) inequalities inside) ∙ length-rowAt (suc n) k (i - 1) inequalities inside i-long
-
-  -- ---- the run finished in state s
-  module _ (s : State) (done : elimination n m E ≡ finished s) where
-    rows : List (List ℤ)
-    rows = map (tightenedRow n s) I
-
-    long-rows : length rows ≡ k
-    unfolding rows
-    long-rows = length-map I (tightenedRow n s) ∙ long-I
-
-    results : Results
-    results = allFilled n m k s rows (map (usedBy m s) (map (sums n (s .substitution)) I))
-
-    -- the tables show that state
-    same : shown n m (s .steps) results ≡ s
-    unfolding results allFilled elimination
-    same =
-        let held : Held n m E s [] = subst (Right n m E) done (run-right allWithin n m E wide-E long-E) in
-        λ i. record {
-          substitution = rows-back (suc n) n (s .substitution) (held .0 .longX) (held .0 .wideX) i;
-          wayBack = rows-back (suc n) n (s .wayBack) (held .0 .longY) (held .0 .wideY) i;
-          marks = s .marks;
-          reasons = rows-back (suc m) n (s .reasons) (held .0 .longReasons) (subst (LongEnded m) done (run-long m allWithin n E)) i;
-          steps = s .steps;
-        }
-
-    number : (i : ℕ) → Counts i k → rowNumber i rows ≡ tightenedRow n s (rowNumber i I)
-    unfolding rows
-    number i c = map-at (tightenedRow n s) I (i - 1) [] [] (omega (arith, long-I))
-
-    set : (i : ℕ) → Counts i k → setNumber i (results .used) ≡ usedBy m s (sums n (s .substitution) (rowNumber i I))
-    unfolding results allFilled
-    set i c =
-        let all = map (sums n (s .substitution)) I in
-        map-at (usedBy m s) all (i - 1) [] 0 (omega (arith, long-I, length-map I (sums n (s .substitution))))
-        ∙ ap (usedBy m s) (map-at (sums n (s .substitution)) I (i - 1) [] [] (omega (arith, long-I)))
-
-    filled : Filled n m k E I (s .steps) results
-    unfolding elimination results rows allFilled
-    filled = record {
-      solvable = solvable allWithin n m E long-E wide-E s done;
-      solved = subst (Solved n m E) (sym same) (solved allWithin n m E long-E wide-E s done);
-      inequality = λ i c. record {
-        row =
-            ap (rowNumber i) (rows-back (suc n) k rows long-rows (wide-tightened n s I)) ∙ number i c
-            ∙ ap (λ t. tightenedRow n t (rowNumber i I)) (sym same);
-        set = set i c ∙ ap (λ t. usedBy m t (sums n (t .substitution) (rowNumber i I))) (sym same);
-        tightened =
-            subst (λ t. Tightened n m E t (rowNumber i I)) (sym same)
-            (tightened allWithin n m E long-E wide-E s done (rowNumber i I) (long-inequality i c));
-      };
-    }
-
-    -- what holds of all equations holds of any set of them
-    all-of : (x : List ℤ) (some : ℕ) → Satisfies x E → SatisfiesSet x E some
-    all-of x some holds j inside there = holds-at x E holds j inside
-
-    one-unmet : (firstRow (alone n) rows ≡ 0 → ⊥) → OneRowUnmet n m k E I (s .steps) results (firstRow (alone n) rows)
-    unfolding elimination
-    one-unmet some = record {
-      filled = filled;
-      counts = counts;
-      never = never;
-      whole = λ x l holds meets. never x l (meets-at x I meets (i - 1) (omega (arith, long-I, counts))) (all-of x _ holds);
-    }
-      where
-        i : ℕ
-        i = firstRow (alone n) rows
-
-        counts : Counts i k
-        counts = omega (arith, long-rows, first-row (alone n) rows some .0)
-
-        never : (x : List ℤ) → length x ≡ n → Meets x (rowNumber i I) → SatisfiesSet x E (setNumber i (results .used)) → ⊥
-        never x l meets holds =
-            one-row allWithin n m E long-E wide-E s done (rowNumber i I) (long-inequality i counts)
-            (ap (alone n) (sym (number i counts)) ∙ first-row (alone n) rows some .1)
-            x l meets (subst (SatisfiesSet x E) (set i counts) holds)
-
-    two-unmet : (firstPair n 1 rows .0 ≡ 0 → ⊥)
-        → TwoRowsUnmet n m k E I (s .steps) results (firstPair n 1 rows .0) (firstPair n 1 rows .1)
-    unfolding elimination
-    two-unmet some = record {
-      filled = filled;
-      counts = (i-counts, j-counts);
-      ordered = first-pair n rows some .1;
-      never = never;
-      whole = λ x l holds meets.
-          never x l (meets-at x I meets (i - 1) (omega (arith, long-I, i-counts))) (meets-at x I meets (j - 1) (omega (arith, long-I, j-counts)))
-          (all-of x _ holds) (all-of x _ holds);
-    }
-      where
-        i : ℕ
-        i = firstPair n 1 rows .0
-
-        j : ℕ
-        j = firstPair n 1 rows .1
-
-        i-counts : Counts i k
-        i-counts = omega (arith, long-rows, first-pair n rows some .0 .0)
-
-        j-counts : Counts j k
-        j-counts = omega (arith, long-rows, first-pair n rows some .0 .1)
-
-        never : (x : List ℤ) → length x ≡ n → Meets x (rowNumber i I) → Meets x (rowNumber j I)
-            → SatisfiesSet x E (setNumber i (results .used)) → SatisfiesSet x E (setNumber j (results .used)) → ⊥
-        never x l i-meets j-meets i-holds j-holds =
-            two-rows allWithin n m E long-E wide-E s done (rowNumber i I) (rowNumber j I) (long-inequality i i-counts) (long-inequality j j-counts)
-            (ap₂ (against n) (sym (number i i-counts)) (sym (number j j-counts)) ∙ first-pair n rows some .2)
-            x l i-meets j-meets (subst (SatisfiesSet x E) (set i i-counts) i-holds) (subst (SatisfiesSet x E) (set j j-counts) j-holds)
-
-    looked : Says n m k equations inequalities results (lookedAt n m k (s .steps) rows)
-    unfolding lookedAt E I
-    looked = go (eqb (firstRow (alone n) rows) 0) refl (eqb (firstPair n 1 rows .0) 0) refl
-      where
-        go : (b : Bool) → eqb (firstRow (alone n) rows) 0 ≡ b → (b′ : Bool) → eqb (firstPair n 1 rows .0) 0 ≡ b′
-            → Says n m k equations inequalities results (elim b [
-              | true ↦ elim b′ [ true ↦ Open (s .steps) | false ↦ TwoRowConflict (firstPair n 1 rows .0) (firstPair n 1 rows .1) (s .steps) ]
-              | false ↦ OneRowConflict (firstRow (alone n) rows) (s .steps)
-            ])
-        go true e true f = filled
-        go true e false f = two-unmet (eqb-false (firstPair n 1 rows .0) 0 f)
-        go false e b′ f = one-unmet (eqb-false (firstRow (alone n) rows) 0 e)
-
-    kept-finished : Promised n m k equations inequalities (withInequalities n m k I s)
-    unfolding withInequalities results rows
-    kept-finished = go (eqb bad 0)
-      where
-        bad : ℕ
-        bad = firstRow (λ row. not (allWithin row)) (map (sums n (s .substitution)) I)
-
-        go : (b : Bool) → Promised n m k equations inequalities (elim b [
-          | true ↦ record { outcome = lookedAt n m k (s .steps) rows; results = results }
-          | false ↦ record { outcome = Refused (LargeSum bad); results = blank n m k }
-        ])
-        go true = looked
-        go false = tt
-
-  -- ---- the run ended
-  module _ (range : inRange n m k ≡ true) (within : allWithin equations ≡ true) where
-    unmet-equations : (row : ℕ) (multipliers : List ℤ) (d steps : ℕ) → elimination n m E ≡ conflicting row multipliers d steps
-        → EquationsUnmet n m equations row (conflictFilled n m k multipliers d)
-    unfolding elimination conflictFilled E
-    unmet-equations row multipliers d steps e =
-        let (low, high, l) = subst (LongEnded m) e (run-long m allWithin n E) in
-        let (w, small) = subst SmallEnded e (run-small n m equations within) in
-        record {
-          counts = (low, high);
-          unsolvable = unsolvable allWithin n m E long-E wide-E row multipliers d steps e;
-          yes = says-yes n m k equations multipliers d range e-long within l w small (refuted allWithin n m E long-E wide-E row multipliers d steps e);
-        }
-
-    kept-after : (ended : Ended) → elimination n m E ≡ ended → Promised n m k equations inequalities (afterRun n m k I ended)
-    unfolding afterRun
-    kept-after (finished s) e = kept-finished s e
-    kept-after (conflicting row multipliers d steps) e = unmet-equations row multipliers d steps e
-    kept-after (tooLarge row steps) e = tt
+use Rattle.rows.specs.Table.{rowsOf}
+use Rattle.rules.specs.declared.Refusal.the-variants.{OutOfRange, WrongLength}
+use Rattle.rules.specs.declared.Outcome.the-variants.{Refused}
+use Rattle.rules.specs.Numbers.{kind, ofOutcome}
+use Rattle.rules.specs.Elimination.{elimination}
+use Rattle.rules.specs.Outcomes.{Results, badEntry, blank, inRange, rightLengths, afterRun, solve}
+use Rattle.promises.specs.Solutions.{Unsolvable}
+use Rattle.promises.specs.Refusals.{inEquations, inInequalities, one, two, three}
+use Rattle.promises.specs.Answers.{Filled, Says, opened, equationConflict, oneRowConflict, twoRowConflict, untouched, zeroed, Promised}
+use Rattle.promises.proofs.Refusals.{first-bad}
+use Rattle.promises.proofs.AnswersAfter.{input-lengths, kept-after}
 
 -- ---- every call
-input-lengths : (n m k : ℕ) (equations inequalities : List ℤ) (given : Results) → rightLengths n m k equations inequalities given ≡ true
-    → (length equations ≡ m * suc n) × (length inequalities ≡ k * suc n)
-unfolding rightLengths
-input-lengths n m k equations inequalities given e = (
-  eqb-true (length equations) (m * suc n) (and-left (eqb (length equations) (m * suc n)) _ e),
-  eqb-true (length inequalities) (k * suc n)
-      (and-left (eqb (length inequalities) (k * suc n)) _ (and-right (eqb (length equations) (m * suc n)) _ e)),
-)
-
 pub promised : (n m k : ℕ) (equations inequalities : List ℤ) (given : Results)
-    → Promised n m k equations inequalities (solve n m k equations inequalities given)
-unfolding solve E I
+    → Promised n m k equations inequalities given (solve n m k equations inequalities given)
+unfolding solve badEntry ofOutcome
 promised n m k equations inequalities given =
-    go (inRange n m k) refl (rightLengths n m k equations inequalities given) refl (allWithin equations) refl (allWithin inequalities)
+    go (inRange n m k) refl (rightLengths n m k equations inequalities given) refl (allWithin equations) refl (allWithin inequalities) refl
   where
     go : (a : Bool) → inRange n m k ≡ a → (b : Bool) → rightLengths n m k equations inequalities given ≡ b → (c : Bool) → allWithin equations ≡ c
-        → (d : Bool) → Promised n m k equations inequalities (elim a [
+        → (d : Bool) → allWithin inequalities ≡ d → Promised n m k equations inequalities given (elim a [
           | true ↦ elim b [
             | true ↦ elim c [
               | true ↦ elim d [
@@ -253,32 +40,37 @@ promised n m k equations inequalities given =
           ]
           | false ↦ record { outcome = Refused OutOfRange; results = given }
         ])
-    go true range true lengths true within true =
-        let (e-long, i-long) = input-lengths n m k equations inequalities given lengths in
-        kept-after n m k equations inequalities e-long i-long range within (elimination n m (rowsOf (suc n) m equations)) refl
-    go true range true lengths true within false = tt
-    go true range true lengths false within d = tt
-    go true range false lengths c within d = tt
-    go false range b lengths c within d = tt
+    go true range true lengths true e true i =
+        kept-after n m k equations inequalities given ((range, lengths), e, i) (elimination n m (rowsOf (suc n) m equations)) refl
+    go true range true lengths true e false i =
+        zeroed {number = 3} (omega arith)
+        (three (range, lengths)
+        (inInequalities e (first-bad n k inequalities (input-lengths n m k equations inequalities given lengths .1) i)))
+        refl
+    go true range true lengths false e d i =
+        zeroed {number = 3} (omega arith)
+        (three (range, lengths) (inEquations (first-bad n m equations (input-lengths n m k equations inequalities given lengths .0) e)))
+        refl
+    go true range false lengths c e d i = untouched {number = 2} (omega arith) (two range lengths) refl
+    go false range b lengths c e d i = untouched {number = 1} (omega arith) (one range) refl
 
--- where some whole numbers satisfy the equations, another outcome than the equation conflict is right
-some-satisfy : {n m k : ℕ} {equations inequalities : List (List ℤ)} {steps : ℕ} {results : Results}
-    → Filled n m k equations inequalities steps results → ⊥ ↔ Unsolvable n equations
-some-satisfy filled = (λ z. absurd z, λ none. none (filled .solvable .0) (filled .solvable .1) (filled .solvable .2))
+-- ---- "the equations can't be met" is said exactly when no whole numbers satisfy them
+
+-- where some do, another outcome is right
+some-satisfy : {n m k other : ℕ} {equations inequalities : List (List ℤ)} {steps : ℕ} {results : Results} → (other ≡ 1 → ⊥)
+    → Filled n m k equations inequalities steps results → (other ≡ 1) ↔ Unsolvable n equations
+some-satisfy not-one filled = (λ z. absurd (not-one z), λ none. absurd (none (filled .solvable .0) (filled .solvable .1) (filled .solvable .2)))
 
 pub exactly-unmet : (n m k : ℕ) (equations inequalities : List ℤ) (given : Results)
-    → let answer = solve n m k equations inequalities given in
-    (IsRefused (answer .outcome) → ⊥) → SaysUnmet (answer .outcome) ↔ Unsolvable n (rowsOf (suc n) m equations)
-exactly-unmet n m k equations inequalities given ran =
-    go (solve n m k equations inequalities given .outcome) (promised n m k equations inequalities given) ran
+    → let numbers = ofOutcome (solve n m k equations inequalities given .outcome) in
+    (kind numbers ≡ 4 → ⊥) → (kind numbers ≡ 1) ↔ Unsolvable n (rowsOf (suc n) m equations)
+exactly-unmet n m k equations inequalities given = go (promised n m k equations inequalities given)
   where
-    results : Results
-    results = solve n m k equations inequalities given .results
-
-    go : (outcome : Outcome) → Says n m k equations inequalities results outcome → (IsRefused outcome → ⊥)
-        → SaysUnmet outcome ↔ Unsolvable n (rowsOf (suc n) m equations)
-    go (Open steps) says ran = some-satisfy says
-    go (EquationConflict row steps) says ran = (λ u. says .unsolvable, λ none. tt)
-    go (OneRowConflict i steps) says ran = some-satisfy (says .filled)
-    go (TwoRowConflict i j steps) says ran = some-satisfy (says .filled)
-    go (Refused refusal) says ran = absurd (ran tt)
+    go : {numbers : List ℕ} → Says n m k equations inequalities given (solve n m k equations inequalities given .results) numbers
+        → (kind numbers ≡ 4 → ⊥) → (kind numbers ≡ 1) ↔ Unsolvable n (rowsOf (suc n) m equations)
+    go (opened filled) ran = some-satisfy (omega arith) filled
+    go (equationConflict unmet) ran = (λ e. unmet .unsolvable, λ none. refl)
+    go (oneRowConflict unmet) ran = some-satisfy (omega arith) (unmet .filled)
+    go (twoRowConflict unmet) ran = some-satisfy (omega arith) (unmet .filled)
+    go (untouched low due same) ran = absurd (ran refl)
+    go (zeroed high due same) ran = absurd (ran refl)

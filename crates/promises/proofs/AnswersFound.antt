@@ -4,13 +4,13 @@ use mathlib.Core.Bool.{Bool, true, false}
 use mathlib.Core.List.{List, [], _∷_, map}
 use Prim.Native.Nat.{ℕ, zero, suc, _+_, _-_, _<_}
 use native.Mathlib.Omega.{arith}
-use borrow.Author.Tests.{eqb-false}
-use lib.Dec.{eqb}
+use borrow.Author.Tests.{eqb-true, eqb-false}
+use lib.Dec.{eqb, eqb·suc-zero}
 use lib.ListN.{length, getD}
 use lib.IntN.{ℤ}
 use Rattle.rules.specs.Inequalities.{firstRow, firstPair, against}
-use Rattle.promises.specs.Meaning.{Holds, Meets, Satisfies, MeetsAll}
-use Rattle.promises.specs.Answers.{rowNumber, Counts}
+use Rattle.promises.specs.Meaning.{rowNumber, Counts, Meets, MeetsAll}
+use Rattle.promises.proofs.Chosen.{chosen}
 
 -- ---- a row of a table, from 0
 
@@ -20,12 +20,7 @@ map-at f [] p a b h = let z : ⊥ = omega arith in absurd z
 map-at f (x ∷ l) zero a b h = refl
 map-at f (x ∷ l) (suc p) a b h = map-at f l p a b (omega arith)
 
--- that is satisfied
-pub holds-at : (x : List ℤ) (equations : List (List ℤ)) → Satisfies x equations → (p : ℕ) → p < length equations → Holds x (getD equations p [])
-holds-at x [] s p h = let z : ⊥ = omega arith in absurd z
-holds-at x (equation ∷ equations) s zero h = s .0
-holds-at x (equation ∷ equations) s (suc p) h = holds-at x equations (s .1) p (omega arith)
-
+-- that is met
 pub meets-at : (x : List ℤ) (inequalities : List (List ℤ)) → MeetsAll x inequalities → (p : ℕ) → p < length inequalities
     → Meets x (getD inequalities p [])
 meets-at x [] s p h = let z : ⊥ = omega arith in absurd z
@@ -64,6 +59,35 @@ first-row test rows some =
     let r = find test rows some in
     let at : firstRow test rows - 1 ≡ r .place = omega (arith, r .is) in
     (omega (arith, r .is, r .inside), ap (λ p. test (getD rows p [])) at ∙ r .passes)
+
+-- a row before it fails the test, and where none passes, every row
+pub earlier-fails : (test : List ℤ → Bool) (rows : List (List ℤ)) (p : ℕ) → p < length rows
+    → (0 < firstRow test rows → suc p < firstRow test rows) → test (getD rows p []) ≡ false
+unfolding firstRow
+earlier-fails test [] p inside before = let bad : ⊥ = omega arith in absurd bad
+earlier-fails test (row ∷ rows) p inside before = go (test row) refl (eqb later 0) refl (earlier-fails test rows) p inside before
+  where
+    later : ℕ
+    later = firstRow test rows
+
+    go : (b : Bool) → test row ≡ b → (b′ : Bool) → eqb later 0 ≡ b′
+        → ((p : ℕ) → p < length rows → (0 < later → suc p < later) → test (getD rows p []) ≡ false) → (p : ℕ) → p < length (row ∷ rows)
+        → (let first = elim b as (λ z. ℕ) [ true ↦ 1 | false ↦ elim b′ as (λ z. ℕ) [ true ↦ 0 | false ↦ suc later ] ] in 0 < first → suc p < first)
+        → test (getD (row ∷ rows) p []) ≡ false
+    go true e b′ f again p inside before = let bad : ⊥ = omega (arith, before (omega arith)) in absurd bad
+    go false e b′ f again zero inside before = e
+    go false e true f again (suc p) inside before = again p (omega arith) (λ some. omega (arith, eqb-true later 0 f))
+    go false e false f again (suc p) inside before = again p (omega arith) (λ some. omega (arith, before (omega arith)))
+
+-- a row that passes while those before it fail is the first
+pub first-is : (test : List ℤ → Bool) (rows : List (List ℤ)) (p : ℕ) → p < length rows → test (getD rows p []) ≡ true
+    → ((q : ℕ) → q < p → test (getD rows q []) ≡ false) → firstRow test rows ≡ suc p
+unfolding firstRow
+first-is test [] p inside e f = let bad : ⊥ = omega arith in absurd bad
+first-is test (row ∷ rows) zero inside e f = chosen 1 _ e
+first-is test (row ∷ rows) (suc p) inside e f =
+    let again = first-is test rows p (omega arith) e (λ q h. f (suc q) (omega arith)) in
+    chosen 1 _ (f 0 (omega arith)) ∙ chosen 0 _ (ap (λ z. eqb z 0) again ∙ eqb·suc-zero p) ∙ ap suc again
 
 -- ---- the first pair of opposites
 

@@ -16,7 +16,8 @@ use Rattle.rows.proofs.Algebra.{length-less, length-scaled, length-unit}
 use Rattle.rows.proofs.TableLaws.{wide-set}
 use Rattle.rows.proofs.Divisors.{length-divided}
 use Rattle.rules.specs.Elimination.{State, Carried, Step, Worked, passed, unmet, large, Ended, finished, conflicting, tooLarge}
-use Rattle.rules.specs.Elimination.{stepOf, putInto, stepped, reasonOf, factor, lost, corrected, shared, lowestTerms, byGcd, closed, oneMore, reduced, gcdOfCoefficients}
+use Rattle.rules.specs.Elimination.{stepOf, putInto, stepped, reasonOf, factor, lost, corrected, shared, lowestTerms, byGcd, closed, oneMore}
+use Rattle.rules.specs.Elimination.{reduced, gcdOfCoefficients}
 use Rattle.rules.specs.Elimination.{closing, stepping, stepBound, work, inOrder, run, start, carried}
 
 -- a table of copies of a row of the right width

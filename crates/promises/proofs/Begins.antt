@@ -1,5 +1,6 @@
 -- What holds between two steps holds at the start.
 use mathlib.Core.Path.{_≡_, refl, sym, ap, _∙_}
+use mathlib.Core.Logic.{inl}
 use mathlib.Core.List.{List, [], _∷_}
 use Prim.Native.Nat.{ℕ, suc, _+_, _<_}
 use native.Mathlib.Nat.{add-zero}
@@ -29,6 +30,7 @@ module _ (n m : ℕ) (equations : List (List ℤ)) where
     wideY = wide-identity n;
     longMarks = length-replicate n 1;
     longReasons = length-replicate n (zeros (suc m));
+    mark = λ c h. inl (getD-replicate n c 1 0 h);
     there = λ p h. ap (image n (identity n)) (image-identity n p h) ∙ image-identity n p h;
     again = λ p h. ap (image n (identity n)) (image-identity n p h) ∙ image-identity n p h;
     divisor = λ c h s. absurd (none-shut n c h s);

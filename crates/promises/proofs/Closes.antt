@@ -148,6 +148,7 @@ module _ (n m : ℕ) (equations X : List (List ℤ)) (marks : List ℕ) (k d : �
     wideY = s .wideY;
     longMarks = length-set marks k 0 ∙ s .longMarks;
     longReasons = length-set reasons k _ ∙ s .longReasons;
+    mark = λ c h. marked c (s .mark c h);
     there = s .there;
     again = s .again;
     divisor = λ c h z.
@@ -172,6 +173,14 @@ module _ (n m : ℕ) (equations X : List (List ℤ)) (marks : List ℕ) (k d : �
           go : (x : ℕ) → 0 < x → (i : ℕ) × (x ≡ suc i)
           go zero h = let z : ⊥ = omega arith in absurd z
           go (suc i) h = (i, refl)
+
+      marked : (c : ℕ) → (getD marks c 0 ≡ 1) ⊎ Shut marks c → (getD (set marks k 0) c 0 ≡ 1) ⊎ Shut (set marks k 0) c
+      marked c (inl other) = go (ℕ-discrete c k)
+        where
+          go : Dec (c ≡ k) → (getD (set marks k 0) c 0 ≡ 1) ⊎ Shut (set marks k 0) c
+          go (yes e) = inr (subst (Shut (set marks k 0)) (sym e) (shut-here marks k inside))
+          go (no e) = inl (getD-set-other marks k c 0 0 e ∙ other)
+      marked c (inr shut) = inr (shut-more marks k inside c shut)
 
       divisor-here : at (reason ++ pos d ∷ []) m ≡ pos d
       divisor-here = getD-at reason (pos d) [] (pos 0) m reason-long

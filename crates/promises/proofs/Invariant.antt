@@ -1,6 +1,7 @@
 -- What holds between two steps of the run. A point p has n+1 numbers: the parameters and then a last number, mostly 1, of which
 -- nothing is asked, since all is linear. X is the substitution, Y the way back.
 use mathlib.Core.Path.{_≡_}
+use mathlib.Core.Logic.{_⊎_}
 use mathlib.Core.List.{List, [], _∷_, map}
 use Prim.Native.Nat.{ℕ, suc, _<_}
 use lib.ListN.{length, getD, take}
@@ -26,6 +27,8 @@ pub record Sound (n m : ℕ) (equations X Y : List (List ℤ)) (marks : List ℕ
   pub wideY : Wide (suc n) Y
   pub longMarks : length marks ≡ n
   pub longReasons : length reasons ≡ n
+  -- each column is open or closed
+  pub mark : (c : ℕ) → c < n → (getD marks c 0 ≡ 1) ⊎ Shut marks c
   -- the substitution and the way back undo each other
   pub there : (p : List ℤ) → length p ≡ suc n → image n X (image n Y p) ≡ p
   pub again : (p : List ℤ) → length p ≡ suc n → image n Y (image n X p) ≡ p

@@ -1,4 +1,5 @@
 -- The promises of document 01, proved of its definitions.
+pub mod Chosen
 pub mod Values
 pub mod Checked
 pub mod Image
@@ -18,10 +19,13 @@ pub mod Pairs
 pub mod AnswersLong
 pub mod AnswersWithin
 pub mod AnswersFound
+pub mod YesMeans
 pub mod AnswersYes
-pub mod Answers
 pub mod TooLarge
 pub mod BoundLeads
 pub mod Bound
-pub mod YesMeans
-pub mod OneAnswer
+pub mod Unlimited
+pub mod Refusals
+pub mod AnswersAfter
+pub mod Answers
+pub mod Refused

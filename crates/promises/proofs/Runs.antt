@@ -49,7 +49,7 @@ module _ (n m : ℕ) (equations : List (List ℤ)) where
       × Standing n m equations (s .substitution) (s .marks) equations es
 
   -- with how many rows are left
-  abbrev Good : ℕ → Worked → Type 0
+  abbrev pub Good : ℕ → Worked → Type 0
   Good count (passed later s) = Held s later × (length later ≡ count)
   Good count (unmet multipliers d steps) = refutes n multipliers d equations ≡ true
   Good count (large steps) = Unit {0}
@@ -67,6 +67,11 @@ module _ (n m : ℕ) (equations : List (List ℤ)) where
       (λ equation c p h z. c .stands p h z ∙ ap (λ v. c .factor *ℤ v) (dot-nothing (e .row) p f)
       ∙ ring (c .factor ∷ []) (search reify) (search reify) refl)
       s
+
+  -- at the start
+  pub held-start : Wide (suc n) equations → length equations ≡ m → Held (start n m) (carried m 0 equations)
+  unfolding start
+  held-start w l = (sound-start n m equations, standing-start n m equations l w)
 
 module _ (fits : List ℤ → Bool) (n m : ℕ) (equations : List (List ℤ)) (w : Wide (suc n) equations) where
   -- ---- (d)
@@ -190,7 +195,7 @@ module _ (fits : List ℤ → Bool) (n m : ℕ) (equations : List (List ℤ)) (w
           (eqb-false (gcdOfCoefficients n e) 1 z)
 
   -- ---- (a)
-  work-good : (e : Carried) (later : List Carried) (s : State) → Held n m equations s (e ∷ later)
+  pub work-good : (e : Carried) (later : List Carried) (s : State) → Held n m equations s (e ∷ later)
       → Good n m equations (length later) (work fits n e later s)
   unfolding work
   work-good e later s held = go (eqb (gcdOf (e .row)) 0) refl (fits _)
@@ -226,7 +231,6 @@ module _ (fits : List ℤ → Bool) (n m : ℕ) (equations : List (List ℤ)) (w
       go ih (large steps) g = tt
 
   pub run-right : length equations ≡ m → Right n m equations (run fits n m equations)
-  unfolding run start
+  unfolding run
   run-right l =
-      inOrder-right m 1 (carried m 0 equations) (start n m)
-      (sound-start n m equations, standing-start n m equations l w) (length-carried n m equations 0 equations ∙ l)
+      inOrder-right m 1 (carried m 0 equations) (start n m) (held-start n m equations w l) (length-carried n m equations 0 equations ∙ l)

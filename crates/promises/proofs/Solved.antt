@@ -66,17 +66,23 @@ module _ (n m : ℕ) (equations : List (List ℤ)) (s : State) (held : Held n m 
   held-solved = record {
     everyChoice = λ y c. all-hold (held .1) (point y) (substituted s y) (length-point n y (c .long)) (still y c) (to y (c .long));
     everySolution = λ x l e. record { long = long-parameters x; closedZero = λ p h c. zero-at x l e p h c };
+    oneChoice = λ y y′ c c′ e. sym (back y (c .long)) ∙ ap (parameters s) e ∙ back y′ (c′ .long);
     there = λ x l.
         same-numbers n (substituted s (parameters s x)) x (long-substituted (parameters s x)) l
         (sym (to (parameters s x) (long-parameters x)) ∙ there-and-back x l);
-    again = λ y l.
-        same-numbers n (parameters s (substituted s y)) y (long-parameters (substituted s y)) l
-        (sym (from (substituted s y) (long-substituted y)) ∙ ap (image n (s .wayBack)) (sym (to y l)) ∙ sound .again (point y) (length-point n y l));
+    again = back;
+    marks = sound .longMarks;
+    mark = sound .mark;
     divisor = λ p h c. let (d, e) = sound .divisor p h c in subst (λ z. pos 1 ≤ℤ z) (sym e) (omega (arith, orders));
     reason = by-reason;
     zeroOpen = sound .zeroOpen;
   }
     where
+      back : (y : List ℤ) → length y ≡ n → parameters s (substituted s y) ≡ y
+      back y l =
+          same-numbers n (parameters s (substituted s y)) y (long-parameters (substituted s y)) l
+          (sym (from (substituted s y) (long-substituted y)) ∙ ap (image n (s .wayBack)) (sym (to y l)) ∙ sound .again (point y) (length-point n y l))
+
       still : (y : List ℤ) → Choice n s y → Still n (s .marks) (point y)
       still y c p h z = List·getD-append y (pos 1 ∷ []) (pos 0) p (omega (arith, c .long)) ∙ c .closedZero p h z
 

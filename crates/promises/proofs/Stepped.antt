@@ -77,6 +77,7 @@ module _ (n m : ℕ) (equations X : List (List ℤ)) (marks : List ℕ) (t : Ste
     wideY = wide-back n t (apt .column) (apt .long) Y (s .longY) (s .wideY);
     longMarks = s .longMarks;
     longReasons = s .longReasons;
+    mark = s .mark;
     there = λ p h.
         let y = image n Y p in
         let l : length y ≡ suc n = length-image n Y (s .longY) p in

@@ -9,23 +9,23 @@ use native.Mathlib.Nat.{suc-mul, zero-mul}
 use native.Mathlib.Numerals.{add-one}
 use native.Mathlib.Decide.{decLt}
 use native.Mathlib.Omega.{arith}
-use borrow.Author.Tests.{eqb-true, leb-true}
+use borrow.Author.Tests.{eqb-true, eq-eqb, leb-true}
 use lib.Dec.{eqb, leb}
 use lib.ListN.{length, set, take, length-append, length-set, length-replicate, getD-replicate, List·getD-append, List·getD-eq-default}
-use lib.Seq.{take-at, length-take-le}
+use lib.Seq.{take-at, length-take-le, getD-take}
 use lib.IntN.{ℤ, pos, negsuc, _+ℤ_, _-ℤ_, _*ℤ_}
 use lib.Signed.{_≤ℤ_, _<ℤ_}
 use Rattle.whole.specs.Gcd.{divides}
-use Rattle.whole.specs.Quotient.{ceiling}
+use Rattle.whole.specs.Quotient.{ceiling, exactly}
 use Rattle.whole.proofs.Order.{orders, pz-neg}
 use Rattle.whole.proofs.Reify.{reify, ring}
 use Rattle.whole.proofs.Linear.{le-by, lt-by, le-on, lt-on}
-use Rattle.whole.proofs.QuotientLaws.{ceiling-is}
+use Rattle.whole.proofs.QuotientLaws.{ceiling-is, exactly-zero}
 use Rattle.rows.specs.Row.{at, dot, values, zeros, gcdOf, divided}
 use Rattle.rows.specs.Table.{Wide}
 use Rattle.rows.proofs.Algebra.{dot-append, dot-zeros, dot-set-row, dot-gathered, length-gathered}
 use Rattle.rows.proofs.Bounded.{and-left}
-use Rattle.rows.proofs.Divisors.{gcdOf-divides, length-divided, dot-divided}
+use Rattle.rows.proofs.Divisors.{gcdOf-divides, at-divided, length-divided, dot-divided}
 use Rattle.rules.specs.Elimination.{State}
 use Rattle.rules.specs.Inequalities.{sums, onlyOpen, tighten, tightenedRow}
 use Rattle.rules.proofs.Lengths.{length-onlyOpen}
@@ -93,6 +93,13 @@ dot-open (mark ∷ marks) (a ∷ row) (b ∷ p) f = ap₂ (λ u v. u +ℤ v) (go
     go : (shut : Bool) → eqb mark 0 ≡ shut → cond shut (pos 0) a *ℤ b ≡ a *ℤ b
     go true e = ring (b ∷ []) {b = pos 0} (search reify) (search reify) refl ∙ sym (f 0 (eqb-true mark 0 e))
     go false e = refl
+
+at-open : (marks : List ℕ) (row : List ℤ) (c : ℕ) → Shut marks c → at (onlyOpen marks row) c ≡ pos 0
+unfolding onlyOpen
+at-open [] row c s = let bad : ⊥ = omega arith in absurd bad
+at-open (mark ∷ marks) [] c s = refl
+at-open (mark ∷ marks) (a ∷ row) zero s = rw (eq-eqb mark 0 s)
+at-open (mark ∷ marks) (a ∷ row) (suc c) s = at-open marks row c s
 
 -- ---- tightened
 
@@ -168,6 +175,23 @@ length-tighten n row l = go (leb 2 (gcdOf (take n row)) && not (divides (gcdOf (
         ∙ ap suc (length-divided (pos (gcdOf (take n row))) (take n row) ∙ length-take-le n row (omega arith))
     go false = l
 
+-- a coefficient that is 0 stays 0
+tighten-zero : (n : ℕ) (row : List ℤ) (c : ℕ) → length row ≡ suc n → c < n → at row c ≡ pos 0 → at (tighten n row) c ≡ pos 0
+unfolding tighten
+tighten-zero n row c l h e = go (leb 2 g && not (divides g (at row n)))
+  where
+    g : ℕ
+    g = gcdOf (take n row)
+
+    go : (b : Bool) → at (elim b [ true ↦ divided (pos g) (take n row) ++ ceiling (at row n) (pos g) ∷ [] | false ↦ row ]) c ≡ pos 0
+    go true =
+        List·getD-append (divided (pos g) (take n row)) (ceiling (at row n) (pos g) ∷ []) (pos 0) c
+        (omega (arith, length-divided (pos g) (take n row), length-take-le n row (omega arith)))
+        ∙ at-divided (pos g) (take n row) c
+        ∙ ap (λ z. exactly z (pos g)) (getD-take n row c (pos 0) h ∙ e)
+        ∙ exactly-zero (pos g)
+    go false = e
+
 -- ---- all three
 module _ (n : ℕ) (s : State) (inequality : List ℤ) where
   row : List ℤ
@@ -180,6 +204,11 @@ module _ (n : ℕ) (s : State) (inequality : List ℤ) where
   pub length-tightened : length (tightenedRow n s inequality) ≡ suc n
   unfolding tightenedRow row
   length-tightened = length-tighten n (onlyOpen (s .marks) row) length-row
+
+  -- closed columns are zero
+  pub closed-zero : (c : ℕ) → c < n → Closed s c → at (tightenedRow n s inequality) c ≡ pos 0
+  unfolding tightenedRow row
+  closed-zero c h z = tighten-zero n (onlyOpen (s .marks) row) c length-row h (at-open (s .marks) row c z)
 
   pub row-exactly : length inequality ≡ suc n → length (s .substitution) ≡ n → Wide (suc n) (s .substitution) → length (s .marks) ≡ n
       → (y : List ℤ) → length y ≡ n → ((c : ℕ) → c < n → Closed s c → at (sums n (s .substitution) inequality) c *ℤ at y c ≡ pos 0)

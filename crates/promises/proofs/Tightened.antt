@@ -16,8 +16,9 @@ use Rattle.promises.specs.Rows.{Tightened}
 use Rattle.promises.proofs.Image.{length-values}
 use Rattle.promises.proofs.Runs.{Held, Right, run-right}
 use Rattle.promises.proofs.Solved.{solved}
-use Rattle.promises.proofs.Tight.{row-exactly, length-sums}
-use Rattle.promises.proofs.Used.{product-zero-r, closed-nothing}
+use Rattle.promises.proofs.Tight.{row-exactly, closed-zero, length-sums}
+use Rattle.promises.proofs.Values.{product-zero-r}
+use Rattle.promises.proofs.Used.{closed-nothing, used-below}
 
 module _ (fits : List ℤ → Bool) (n m : ℕ) (equations : List (List ℤ)) (l : length equations ≡ m) (w : Wide (suc n) equations) where
   pub tightened : (s : State) → run fits n m equations ≡ finished s → (inequality : List ℤ) → length inequality ≡ suc n
@@ -33,4 +34,6 @@ module _ (fits : List ℤ → Bool) (n m : ℕ) (equations : List (List ℤ)) (l
             exact (parameters s x) (length-values (s .wayBack) (point x) ∙ held .0 .longY)
             (closed-nothing n m equations l s done (held .0 .longReasons) row (length-sums n (s .substitution) inequality) x h holds)
             .0 (subst (λ v. Meets v inequality) (sym (done .there x h)) meets);
+        closedZero = closed-zero n s inequality;
+        bits = used-below m s row;
       }

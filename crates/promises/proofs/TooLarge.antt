@@ -9,7 +9,9 @@ use lib.ListN.{take}
 use lib.IntN.{ℤ, natAbs}
 use Rattle.rows.specs.Row.{at, gcdOf, smallest, allWithin}
 use Rattle.rows.specs.Table.{flat}
-use Rattle.rules.specs.Elimination.{State, Carried, Step, stepOf, putInto, stepped, oneMore, reasonOf, reduced, gcdOfCoefficients, stepBound, listedA, listedC, listedD, closing, stepping, fromB, work, Worked, passed, unmet, large, Ended, conflicting, tooLarge, inOrder, run, elimination, carried, start}
+use Rattle.rules.specs.Elimination.{State, Carried, Step, Worked, passed, unmet, large, Ended, conflicting, tooLarge}
+use Rattle.rules.specs.Elimination.{stepOf, putInto, stepped, oneMore, reasonOf, reduced, gcdOfCoefficients, stepBound, listedA, listedC, listedD}
+use Rattle.rules.specs.Elimination.{closing, stepping, fromB, work, inOrder, run, elimination, carried, start}
 use Rattle.promises.specs.Listed.{noLimit, Group, listedStepping, listedWork, listedRows, listedRun, limited}
 
 -- the work on one row, cut off in the same way
@@ -53,7 +55,8 @@ module _ (n : ℕ) where
           ]
 
       go : (fit closes : Bool)
-          → stepping allWithin n most e′ later′ (oneMore s′) ≡ cut (listedStepping n most e′ later′ (oneMore s′)) (stepping noLimit n most e′ later′ (oneMore s′))
+          → stepping allWithin n most e′ later′ (oneMore s′)
+          ≡ cut (listedStepping n most e′ later′ (oneMore s′)) (stepping noLimit n most e′ later′ (oneMore s′))
           → unless fit (next allWithin closes) (s .steps) ≡ unless fit (cut (groups closes) (next noLimit closes)) (s .steps)
       go true true again = refl
       go true false again = again
@@ -89,9 +92,11 @@ module _ (n : ℕ) where
       go false false one again = refl
 
       -- a row that is done lists nothing
-      pull : (none : Bool) → _≡_ {A = Worked} (elim none [ true ↦ passed later s | false ↦ unless (allWithin (listedA g e)) (cut (groups (eqb (gcdOfCoefficients n e′) 1)) (next noLimit (eqb (gcdOfCoefficients n e′) 1))) (s .steps) ])
-          (cut (elim none [ true ↦ [] | false ↦ record { steps = s .steps; numbers = listedA g e } ∷ groups (eqb (gcdOfCoefficients n e′) 1) ])
-          (elim none [ true ↦ passed later s | false ↦ next noLimit (eqb (gcdOfCoefficients n e′) 1) ]))
+      pull : (none : Bool) → let one = eqb (gcdOfCoefficients n e′) 1 in
+          _≡_ {A = Worked}
+          (elim none [ true ↦ passed later s | false ↦ unless (allWithin (listedA g e)) (cut (groups one) (next noLimit one)) (s .steps) ])
+          (cut (elim none [ true ↦ [] | false ↦ record { steps = s .steps; numbers = listedA g e } ∷ groups one ])
+          (elim none [ true ↦ passed later s | false ↦ next noLimit one ]))
       pull true = refl
       pull false = refl
 
@@ -135,7 +140,8 @@ module _ (n left j : ℕ) where
   is-groups (large steps) = refl
 
   -- a row's groups first, then those of the rows behind it
-  rows-cut : ((later : List Carried) (s : State) → inOrder allWithin n left (suc j) later s ≡ limited (listedRows n left (suc j) later s) (inOrder noLimit n left (suc j) later s))
+  rows-cut : ((later : List Carried) (s : State)
+      → inOrder allWithin n left (suc j) later s ≡ limited (listedRows n left (suc j) later s) (inOrder noLimit n left (suc j) later s))
       → (groups : List Group) (worked : Worked)
       → after allWithin (cut groups worked) ≡ limited (map (λ group. (j, group)) groups ++ groupsAfter worked) (after noLimit worked)
   unfolding after groupsAfter cut limited

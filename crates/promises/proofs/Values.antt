@@ -7,11 +7,14 @@ use Prim.Native.Nat.{ℕ, zero, suc, _<_}
 use native.Mathlib.Nat.{suc-inj, suc-ne-zero}
 use native.Mathlib.Decide.{ℕ-discrete}
 use native.Mathlib.Omega.{arith}
+use borrow.Author.Tests.{eqb-true}
+use lib.Dec.{eqb}
 use lib.ListN.{length, set, take}
 use lib.Seq.{getD-set-same, getD-set-other}
-use lib.IntN.{ℤ, pos, _+ℤ_, _-ℤ_, _*ℤ_}
+use lib.IntN.{ℤ, pos, natAbs, _+ℤ_, _-ℤ_, _*ℤ_}
 use Rattle.whole.specs.Gcd.{divides}
 use Rattle.whole.proofs.Divides.{_∣ℤ_, dvd-zero, dvd-sub, divides-true, true-divides}
+use Rattle.whole.proofs.Integers.{natAbs-zero}
 use Rattle.whole.proofs.Reify.{reify, ring}
 use Rattle.rows.specs.Row.{at, dot, unitRow}
 use Rattle.rows.proofs.Algebra.{dot-set-row, dot-unit}
@@ -62,6 +65,14 @@ pub divided-all : (d : ℕ) (row : List ℤ) → ((i : ℕ) → i < length row �
 unfolding dividesAll
 divided-all d [] f = refl
 divided-all d (a ∷ row) f = and-both (true-divides (f 0 (omega arith))) (divided-all d row (λ i h. f (suc i) (omega arith)))
+
+-- ---- a product is 0 where a factor is
+
+pub product-zero-l : (a b : ℤ) → eqb (natAbs a) 0 ≡ true → a *ℤ b ≡ pos 0
+product-zero-l a b e = ap (λ z. z *ℤ b) (natAbs-zero a (eqb-true (natAbs a) 0 e)) ∙ ring (b ∷ []) (search reify) (search reify) refl
+
+pub product-zero-r : (a b : ℤ) → b ≡ pos 0 → a *ℤ b ≡ pos 0
+product-zero-r a b e = ap (λ z. a *ℤ z) e ∙ ring (a ∷ []) (search reify) (search reify) refl
 
 -- ---- rows of which all is 0, or all but one number
 

@@ -2,5 +2,7 @@
 pub mod Meaning
 pub mod Solutions
 pub mod Rows
-pub mod Answers
 pub mod Listed
+pub mod Refusals
+pub mod Answers
+pub mod Verdicts

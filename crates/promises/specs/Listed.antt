@@ -1,5 +1,6 @@
 -- "A listed number outside -W..W is refusal 4." The run without a limit, and the numbers that it lists, in the order in which they are
 -- made.
+use mathlib.Core.Path.{_≡_}
 use mathlib.Core.Bool.{Bool, true, false}
 use mathlib.Core.List.{List, [], _∷_, _++_, map}
 use Prim.Native.Nat.{ℕ, zero, suc}
@@ -8,7 +9,8 @@ use lib.ListN.{take}
 use lib.IntN.{ℤ, natAbs}
 use Rattle.rows.specs.Row.{at, gcdOf, smallest, allWithin, bounded}
 use Rattle.rows.specs.Table.{flat}
-use Rattle.rules.specs.Elimination.{State, Carried, stepOf, putInto, stepped, oneMore, reasonOf, reduced, gcdOfCoefficients, stepBound, listedA, listedC, listedD, work, passed, unmet, large, Ended, tooLarge, carried, start}
+use Rattle.rules.specs.Elimination.{State, Carried, stepOf, putInto, stepped, oneMore, reasonOf, reduced, gcdOfCoefficients, stepBound}
+use Rattle.rules.specs.Elimination.{listedA, listedC, listedD, work, passed, unmet, large, Ended, tooLarge, carried, start}
 
 -- no number is too large
 abbrev pub noLimit : List ℤ → Bool
@@ -72,3 +74,10 @@ unfoldable pub limited : List (ℕ × Group) → Ended → Ended
 unfolding bounded
 limited [] ended = ended
 limited (group ∷ groups) ended = elim (allWithin (group .1 .numbers)) [ true ↦ limited groups ended | false ↦ tooLarge (group .0) (group .1 .steps) ]
+
+-- the first group with a number beyond the limit is that of this row, after so many steps
+pub data FirstLarge (row steps : ℕ) : List (ℕ × Group) → Type 0 where
+  here : {numbers : List ℤ} {groups : List (ℕ × Group)}
+      → allWithin numbers ≡ false → FirstLarge row steps ((row, record { steps = steps; numbers = numbers }) ∷ groups)
+  later : {group : ℕ × Group} {groups : List (ℕ × Group)}
+      → allWithin (group .1 .numbers) ≡ true → FirstLarge row steps groups → FirstLarge row steps (group ∷ groups)

@@ -1,7 +1,7 @@
 -- What rows and tables say of whole numbers x_1..x_n and parameters y_1..y_n.
 use mathlib.Core.Path.{_≡_}
 use mathlib.Core.List.{List, [], _∷_, _++_}
-use Prim.Native.Nat.{ℕ, _<_, _/_, _%_, _^_}
+use Prim.Native.Nat.{ℕ, _-_, _<_, _≤_, _/_, _%_, _^_}
 use lib.ListN.{length, getD}
 use lib.IntN.{ℤ, pos}
 use lib.Signed.{_≤ℤ_}
@@ -26,6 +26,21 @@ Satisfies x (equation ∷ equations) = Holds x equation × Satisfies x equations
 abbrev pub MeetsAll : List ℤ → List (List ℤ) → Type 0
 MeetsAll x [] = Unit {0}
 MeetsAll x (inequality ∷ inequalities) = Meets x inequality × MeetsAll x inequalities
+
+-- no whole numbers satisfy the whole system
+abbrev pub NoSolution : ℕ → List (List ℤ) → List (List ℤ) → Type 0
+NoSolution n equations inequalities = (x : List ℤ) → length x ≡ n → Satisfies x equations → MeetsAll x inequalities → ⊥
+
+-- "Rows and columns count from 1 .. in every field": row i of a table, and set i of the table used
+abbrev pub rowNumber : ℕ → List (List ℤ) → List ℤ
+rowNumber i rows = getD rows (i - 1) []
+
+abbrev pub setNumber : ℕ → List ℕ → ℕ
+setNumber i sets = getD sets (i - 1) 0
+
+-- i is the number of a row, of so many
+abbrev pub Counts : ℕ → ℕ → Type 0
+Counts i count = (1 ≤ i) × (i ≤ count)
 
 -- "marks, n: 1 open, 0 closed"
 abbrev pub Closed : State → ℕ → Type 0

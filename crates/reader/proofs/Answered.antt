@@ -12,8 +12,8 @@ use Rattle.rows.specs.Row.{zeros}
 use Rattle.matrix.specs.Machine.{begin}
 use Rattle.matrix.specs.Poured.{poured}
 use Rattle.matrix.specs.Reader.{scan, numbersOf, reply, filled, read}
-use Rattle.matrix.specs.declared.Reading.{Reading}
-use Rattle.matrix.specs.declared.Reading.the-variants.{System, Unread}
+use Rattle.rules.specs.declared.Reading.{Reading}
+use Rattle.rules.specs.declared.Reading.the-variants.{System, Unread}
 use Rattle.reader.specs.Answers.{isSystem}
 
 -- what only `true` has

@@ -1,7 +1,7 @@
 -- The two kinds of answer.
 use mathlib.Core.Bool.{Bool, true, false}
-use Rattle.matrix.specs.declared.Reading.{Reading}
-use Rattle.matrix.specs.declared.Reading.the-variants.{System, Unread}
+use Rattle.rules.specs.declared.Reading.{Reading}
+use Rattle.rules.specs.declared.Reading.the-variants.{System, Unread}
 
 abbrev pub isSystem : Reading → Bool
 isSystem (System n m k) = true

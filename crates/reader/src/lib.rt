@@ -9,7 +9,7 @@ ghost use Rattle.reader.specs.Answers.{isSystem};
 
 mod entries;
 
-use matrix::Reading;
+use rules::Reading;
 use rules::Refusal;
 
 fn is_system(reading: Reading) -> bool

@@ -3,3 +3,4 @@ pub mod Elimination
 pub mod Inequalities
 pub mod Outcomes
 pub mod Checker
+pub mod Numbers

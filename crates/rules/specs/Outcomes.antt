@@ -8,31 +8,11 @@ use lib.IntN.{ℤ, pos}
 use Rattle.rows.specs.Row.{zeros, allWithin, bounded, firstBeyond}
 use Rattle.rows.specs.Table.{rowsOf, flat}
 use Rattle.rules.specs.declared.Refusal.{Refusal}
-use Rattle.rules.specs.declared.Refusal.the-variants.{OutOfRange, WrongLength, BadEntry, TooLarge, LargeSum, Malformed, LongText}
+use Rattle.rules.specs.declared.Refusal.the-variants.{OutOfRange, WrongLength, BadEntry, TooLarge, LargeSum}
 use Rattle.rules.specs.declared.Outcome.{Outcome}
 use Rattle.rules.specs.declared.Outcome.the-variants.{Open, EquationConflict, OneRowConflict, TwoRowConflict, Refused}
 use Rattle.rules.specs.Elimination.{State, Ended, finished, conflicting, tooLarge, elimination}
 use Rattle.rules.specs.Inequalities.{sums, usedBy, tightenedRow, firstRow, alone, firstPair}
-
--- ---- The document's number and values of each refusal
-
-unfoldable pub numberOf : Refusal → ℕ
-numberOf OutOfRange = 1
-numberOf WrongLength = 2
-numberOf (BadEntry table row column) = 3
-numberOf (TooLarge row steps) = 4
-numberOf (LargeSum inequality) = 5
-numberOf (Malformed place) = 6
-numberOf LongText = 7
-
-unfoldable pub fieldsOf : Refusal → List ℕ
-fieldsOf OutOfRange = []
-fieldsOf WrongLength = []
-fieldsOf (BadEntry table row column) = table ∷ row ∷ column ∷ []
-fieldsOf (TooLarge row steps) = row ∷ steps ∷ []
-fieldsOf (LargeSum inequality) = inequality ∷ []
-fieldsOf (Malformed place) = place ∷ []
-fieldsOf LongText = []
 
 -- ---- refusal 3: the first entry beyond the limit of a table with rows of this width
 

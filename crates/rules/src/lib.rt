@@ -42,3 +42,9 @@ pub enum Verdict {
     No,
     NotChecked(Refusal),
 }
+
+// What the reader answers.
+pub enum Reading {
+    System { n: usize, m: usize, k: usize },
+    Unread(Refusal),
+}

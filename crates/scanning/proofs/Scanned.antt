@@ -12,8 +12,8 @@ use Rattle.matrix.specs.Bytes.{lineFeed}
 use Rattle.matrix.specs.Machine.{step}
 use Rattle.matrix.specs.Reader.{isDead, isReturn, beyond, counted, closed, atEnd, scan}
 use Rattle.matrix.specs.declared.Machine.{Machine}
-use Rattle.matrix.specs.declared.Reading.{Reading}
-use Rattle.matrix.specs.declared.Reading.the-variants.{Unread}
+use Rattle.rules.specs.declared.Reading.{Reading}
+use Rattle.rules.specs.declared.Reading.the-variants.{Unread}
 
 pub closed-is : (m : Machine) (place : ℕ) → closed m place
     ≡ cond (isDead (m .phase)) (Unread (Malformed place)) (cond (beyond m) (Unread OutOfRange) (cond (m .body && eqb (m .rows) 0) (counted m) (Unread (Malformed place))))

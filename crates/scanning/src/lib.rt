@@ -8,7 +8,7 @@ ghost use Rattle.machine.specs.Sound.{Sound};
 use machine::step;
 use matrix::Machine;
 use matrix::Phase;
-use matrix::Reading;
+use rules::Reading;
 use rules::Refusal;
 
 fn is_start(m: Machine) -> bool

@@ -19,4 +19,6 @@ pub mod TextLines
 pub mod TextReads
 pub mod WellFormedRead
 pub mod PackedRows
+pub mod OnePlace
+pub mod ReadWays
 pub mod Promises

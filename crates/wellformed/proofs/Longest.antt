@@ -12,8 +12,8 @@ use Rattle.matrix.specs.Grammar.{WellFormed}
 use Rattle.matrix.specs.Machine.{begin, step}
 use Rattle.matrix.specs.Reader.{isDead, counted, scan}
 use Rattle.matrix.specs.declared.Machine.{Machine}
-use Rattle.matrix.specs.declared.Reading.{Reading}
-use Rattle.matrix.specs.declared.Reading.the-variants.{System, Unread}
+use Rattle.rules.specs.declared.Reading.{Reading}
+use Rattle.rules.specs.declared.Reading.the-variants.{System, Unread}
 use Rattle.wellformed.specs.Promised.{Shared, LongestShared}
 use Rattle.wellformed.proofs.Runs.{run, run-append, Accepts, dead-stays, dead-refuses}
 use Rattle.wellformed.proofs.Continuing.{continues}

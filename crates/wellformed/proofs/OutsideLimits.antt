@@ -15,8 +15,8 @@ use Rattle.matrix.specs.Reader.{isStart, countsFit, beyond, scan}
 use Rattle.matrix.specs.declared.Phase.{Phase}
 use Rattle.matrix.specs.declared.Phase.the-variants.{Start, Lead, Marked, Signed, Digits, Gap, Return, Comment, Dead}
 use Rattle.matrix.specs.declared.Machine.{Machine}
-use Rattle.matrix.specs.declared.Reading.{Reading}
-use Rattle.matrix.specs.declared.Reading.the-variants.{Unread}
+use Rattle.rules.specs.declared.Reading.{Reading}
+use Rattle.rules.specs.declared.Reading.the-variants.{Unread}
 use Rattle.wellformed.specs.Promised.{Headed}
 use Rattle.wellformed.proofs.Runs.{run, Accepts}
 use Rattle.wellformed.proofs.Following.{Following, Heads, skip, head, Rest, Ended}

@@ -15,9 +15,9 @@ use Rattle.matrix.specs.Grammar.{Row, RowLine, row, Body, Matrix, Says}
 use Rattle.matrix.specs.Machine.{begin}
 use Rattle.matrix.specs.Poured.{poured}
 use Rattle.matrix.specs.Reader.{countsFit, scan, Read, filled, read}
-use Rattle.matrix.specs.declared.Reading.{Reading}
-use Rattle.matrix.specs.declared.Reading.the-variants.{System, Unread}
-use Rattle.wellformed.specs.Promised.{rowsOfKind, entered, packed, answered}
+use Rattle.rules.specs.declared.Reading.{Reading}
+use Rattle.rules.specs.declared.Reading.the-variants.{System, Unread}
+use Rattle.wellformed.specs.Promised.{rowsOfKind, entered, packed, answered, TablesHold, RowsPacked}
 use Rattle.wellformed.proofs.Scanning.{both}
 use Rattle.wellformed.proofs.WellFormedRead.{read-says, numbers-say}
 
@@ -30,7 +30,7 @@ entered-long r = go (r .inequality)
     go true = length-map (r .numbers) negℤ
     go false = refl
 
-row-long : {columns : ℕ} {r : Row} {line : List ℕ} → RowLine columns r line → length (entered r) ≡ columns - 1
+pub row-long : {columns : ℕ} {r : Row} {line : List ℕ} → RowLine columns r line → length (entered r) ≡ columns - 1
 row-long {r = r} (row {inequality = inequality} {numbers = numbers} blanks long are) =
     entered-long (record { inequality = inequality; numbers = numbers }) ∙ long
 
@@ -59,7 +59,7 @@ matrix-long which (Matrix.head line body) = body-long which body
 
 -- ---- the limits within which a system is answered
 
-record Answering (columns : ℕ) (matrix : List Row) (n m k : ℕ) : Type 0 where
+pub record Answering (columns : ℕ) (matrix : List Row) (n m k : ℕ) : Type 0 where
   pub equationsAre : m ≡ rowsOfKind false matrix
   pub inequalitiesAre : k ≡ rowsOfKind true matrix
   pub width : suc n ≡ columns - 1
@@ -67,7 +67,7 @@ record Answering (columns : ℕ) (matrix : List Row) (n m k : ℕ) : Type 0 wher
   pub fewEquations : m ≤ 32
   pub fewInequalities : k ≤ 64
 
-answering : (rows columns : ℕ) (matrix : List Row) (n m k : ℕ) → answered rows columns matrix ≡ System n m k → Answering columns matrix n m k
+pub answering : (rows columns : ℕ) (matrix : List Row) (n m k : ℕ) → answered rows columns matrix ≡ System n m k → Answering columns matrix n m k
 unfolding answered
 answering rows columns matrix n m k = go (countsFit rows columns && (leb (rowsOfKind false matrix) 32 && leb (rowsOfKind true matrix) 64)) refl
   where
@@ -130,17 +130,6 @@ reading-filled text equations inequalities long long′ short =
     rw (read-filled text equations inequalities long long′ short) (filled-reading (scan begin 0 text) text)
 
 -- ---- what a system's two tables hold
-
-pub record TablesHold (reads : Read) (matrix : List Row) (n m k : ℕ) : Type 0 where
-  pub reading : reads .reading ≡ System n m k
-  pub equations : reads .equations ≡ packed false matrix ++ zeros (1056 - m * suc n)
-  pub inequalities : reads .inequalities ≡ packed true matrix ++ zeros (2112 - k * suc n)
-
-pub record RowsPacked (text : List ℕ) (matrix : List Row) (n m k : ℕ) : Type 0 where
-  pub equationsLong : length (packed false matrix) ≡ m * suc n
-  pub inequalitiesLong : length (packed true matrix) ≡ k * suc n
-  pub tables : (equations inequalities : List ℤ) → length equations ≡ 1056 → length inequalities ≡ 2112 → length text ≤ 65536
-      → TablesHold (read text equations inequalities) matrix n m k
 
 pub packed-rows : {rows columns : ℕ} {matrix : List Row} (text : List ℕ) (n m k : ℕ) → Says text rows columns matrix
     → answered rows columns matrix ≡ System n m k → RowsPacked text matrix n m k

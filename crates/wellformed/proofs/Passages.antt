@@ -9,8 +9,8 @@ use Rattle.matrix.specs.Bytes.{lineFeed, carriageReturn}
 use Rattle.matrix.specs.Machine.{step}
 use Rattle.matrix.specs.Reader.{isStart, isDigits, isReturn, isDead, beyond, closed, atEnd, scan, entryOf, ends, numbers}
 use Rattle.matrix.specs.declared.Machine.{Machine}
-use Rattle.matrix.specs.declared.Reading.{Reading}
-use Rattle.matrix.specs.declared.Reading.the-variants.{Unread}
+use Rattle.rules.specs.declared.Reading.{Reading}
+use Rattle.rules.specs.declared.Reading.the-variants.{Unread}
 use Rattle.wellformed.proofs.Runs.{run}
 
 -- a scan of these bytes answers this, wherever the first of them stands in the text

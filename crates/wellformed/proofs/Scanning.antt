@@ -10,8 +10,8 @@ use Rattle.matrix.specs.Bytes.{lineFeed}
 use Rattle.matrix.specs.Machine.{step}
 use Rattle.matrix.specs.Reader.{isReturn, isDead, beyond, counted, atEnd, scan}
 use Rattle.matrix.specs.declared.Machine.{Machine}
-use Rattle.matrix.specs.declared.Reading.{Reading}
-use Rattle.matrix.specs.declared.Reading.the-variants.{Unread}
+use Rattle.rules.specs.declared.Reading.{Reading}
+use Rattle.rules.specs.declared.Reading.the-variants.{Unread}
 use Rattle.wellformed.proofs.Runs.{run, Accepts}
 
 pub data Scanned : Machine → List ℕ → ℕ → Reading → Type 0 where

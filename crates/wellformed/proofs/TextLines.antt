@@ -11,7 +11,7 @@ use Rattle.matrix.specs.Grammar.{Lines, last, feed, returnFeed}
 use Rattle.matrix.specs.Machine.{step}
 use Rattle.matrix.specs.Reader.{isReturn, beyond, closed, numbers}
 use Rattle.matrix.specs.declared.Machine.{Machine}
-use Rattle.matrix.specs.declared.Reading.{Reading}
+use Rattle.rules.specs.declared.Reading.{Reading}
 use Rattle.wellformed.proofs.Runs.{run}
 use Rattle.wellformed.proofs.Passages.{Answers, LineEnd, byFeed, byReturn, Line}
 

@@ -11,7 +11,7 @@ use Rattle.matrix.specs.Machine.{begin, step}
 use Rattle.matrix.specs.Reader.{isReturn, countsFit, beyond, counted, closed, scan, numbersOf}
 use Rattle.matrix.specs.declared.Phase.the-variants.{Start}
 use Rattle.matrix.specs.declared.Machine.{Machine}
-use Rattle.matrix.specs.declared.Reading.the-variants.{Unread}
+use Rattle.rules.specs.declared.Reading.the-variants.{Unread}
 use Rattle.wellformed.specs.Promised.{rowsOfKind, packed, answered, Headed}
 use Rattle.wellformed.proofs.Runs.{run, Accepts}
 use Rattle.wellformed.proofs.Passages.{Answers, byFeed, byReturn}

@@ -1,6 +1,7 @@
 -- `plassobine_check` meets its contract: the checker's answer in numbers, where there is room for them.
 use Rattle.rules.specs.declared.Verdict.{Verdict}
-use Rattle.numbers.specs.Numbers.{ofVerdict}
+use Rattle.rules.specs.Numbers.{ofVerdict}
+use Rattle.numbers.specs.Numbers.{five}
 use Rattle.exports.specs.Numbered.{checked}
 use Rattle.exports.proofs.Room.{without-room, with-room}
 use borrow.Author.Needs.{needs}
@@ -25,7 +26,7 @@ unfolding checked
 returns-2 c =
     let v = c .before .before .before .before in
     let a = v .before .before .before .args in
-    with-room ofVerdict (λ (x : Verdict). tt) _ _ _ (a .outcome .now) tt (v .before .if1 .left) (v .check .ensures) (c .before .before .put-verdict .ensures)
+    with-room (λ (x : Verdict). five (ofVerdict x)) (λ (x : Verdict). tt) _ _ _ (a .outcome .now) tt (v .before .if1 .left) (v .check .ensures) (c .before .before .put-verdict .ensures)
 
 pub plassobine-check-spec : {M : Type 1} → statement M
 plassobine-check-spec =

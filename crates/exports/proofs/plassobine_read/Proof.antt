@@ -1,6 +1,7 @@
 -- `plassobine_read` meets its contract: the reader's answer in numbers, where there is room for them.
 use Rattle.matrix.specs.Reader.{Read, reply}
-use Rattle.numbers.specs.Numbers.{ofReading}
+use Rattle.rules.specs.Numbers.{ofReading}
+use Rattle.numbers.specs.Numbers.{five}
 use Rattle.exports.specs.Numbered.{readInto}
 use Rattle.exports.proofs.Room.{without-room, with-room}
 use borrow.Author.Needs.{needs}
@@ -32,7 +33,7 @@ returns-2 c =
     let r = c .before .before .before .before .before .before in
     let l = r .before .before .before in
     let a = l .before .before .before .args in
-    with-room (λ (x : Read). ofReading (x .reading)) (λ (x : Read). (x .equations, x .inequalities)) (reply _ _ _) _ _ (a .outcome .now)
+    with-room (λ (x : Read). five (ofReading (x .reading))) (λ (x : Read). (x .equations, x .inequalities)) (reply _ _ _) _ _ (a .outcome .now)
     (a .equations .now, a .inequalities .now) (l .if1 .left) (r .read .ensures) (c .before .before .put-reading .ensures)
 
 pub plassobine-read-spec : {M : Type 1} → statement M

@@ -1,7 +1,8 @@
 -- `plassobine_solve` meets its contract: the solver's answer in numbers, where there is room for them.
 use Rattle.rules.specs.Outcomes.{Answer, solve}
 use Rattle.solver.specs.Answered.{answer, tables}
-use Rattle.numbers.specs.Numbers.{ofOutcome}
+use Rattle.rules.specs.Numbers.{ofOutcome}
+use Rattle.numbers.specs.Numbers.{five}
 use Rattle.exports.specs.Numbered.{solved}
 use Rattle.exports.proofs.Room.{without-room, with-room}
 use borrow.Author.Needs.{needs}
@@ -52,7 +53,7 @@ returns-2 c =
     let held = answer (s .solve .result) (t .0) (t .1 .0) (t .1 .1 .0) (t .1 .1 .1 .0) (t .1 .1 .1 .1 .0) (t .1 .1 .1 .1 .1 .0) (t .1 .1 .1 .1 .1 .1 .0) in
     let given = tables (a .substitution .now) (a .marks .now) (a .back .now) (a .reasons .now) (a .conflict .now) (a .tightened .now) (a .used .now) in
     let goal = solve (a .n) (a .m) (a .k) (a .equations .now) (a .inequalities .now) given in
-    with-room (λ (x : Answer). ofOutcome (x .outcome)) (λ (x : Answer). x .results) held goal _ (a .outcome .now) given
+    with-room (λ (x : Answer). five (ofOutcome (x .outcome))) (λ (x : Answer). x .results) held goal _ (a .outcome .now) given
     (l .if1 .left) (s .solve .ensures) (c .before .before .put-outcome .ensures)
 
 pub plassobine-solve-spec : {M : Type 1} → statement M

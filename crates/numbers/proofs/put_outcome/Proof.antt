@@ -1,5 +1,6 @@
 -- `numbers::put_outcome` meets its contract: in each kind of outcome the numbers compute.
-use Rattle.numbers.specs.Numbers.{five, ofOutcome}
+use Rattle.rules.specs.Numbers.{ofOutcome}
+use Rattle.numbers.specs.Numbers.{five}
 use Rattle.matrix.specs.Poured.{poured}
 use borrow.Author.Needs.{needs}
 use Rattle.numbers.proofs.put_outcome.Statement.{statement}

@@ -1,5 +1,6 @@
 -- `numbers::put_reading` meets its contract: in each case the numbers compute.
-use Rattle.numbers.specs.Numbers.{five, ofReading}
+use Rattle.rules.specs.Numbers.{ofReading}
+use Rattle.numbers.specs.Numbers.{five}
 use Rattle.matrix.specs.Poured.{poured}
 use borrow.Author.Needs.{needs}
 use Rattle.numbers.proofs.put_reading.Statement.{statement}

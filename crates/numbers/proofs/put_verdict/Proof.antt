@@ -1,5 +1,6 @@
 -- `numbers::put_verdict` meets its contract: in each case the numbers compute.
-use Rattle.numbers.specs.Numbers.{five, ofVerdict}
+use Rattle.rules.specs.Numbers.{ofVerdict}
+use Rattle.numbers.specs.Numbers.{five}
 use Rattle.matrix.specs.Poured.{poured}
 use borrow.Author.Needs.{needs}
 use Rattle.numbers.proofs.put_verdict.Statement.{statement}

@@ -1,7 +1,7 @@
 -- `reader::read_short` meets its contract: rows enter the tables only if the text is a system.
 use mathlib.Core.Path.{sym, ap, _∙_}
 use Rattle.matrix.specs.Reader.{filled}
-use Rattle.matrix.specs.declared.Reading.{Reading}
+use Rattle.rules.specs.declared.Reading.{Reading}
 use Rattle.reader.proofs.Answered.{filled-system, filled-unread}
 use borrow.Author.Needs.{needs}
 use Rattle.reader.proofs.read_short.Statement.{statement}

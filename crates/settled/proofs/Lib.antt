@@ -1,0 +1,2 @@
+-- Two answers that one contract allows are equal.
+pub mod OneAnswer

@@ -1,0 +1,2 @@
+-- Laws of what an answer of `read` means.
+mod Answers

@@ -1,0 +1,2 @@
+-- What an answer of the operating system means.
+pub mod Moves
