@@ -1,8 +1,9 @@
-/* Plassobine: whether whole numbers can satisfy linear equations and inequalities, and why not when they cannot.
+/* Plassobine: looks for whole numbers that satisfy linear equations and inequalities, and says why where there are none.
  *
- * The functions are proved to do what is said here on every input: whatever the numbers and the lengths, they end, read and
- * write nothing but the arrays that they are lent, allocate nothing, keep nothing between calls and may run in several
- * threads at once. All that they ask of the caller is what C asks of any call:
+ * The functions are proved, in Rattle, to answer what docs/RULES.md says on every input, whatever the numbers and the lengths,
+ * and to end. They read and write nothing but the arrays that they are lent, allocate nothing, keep nothing between calls and
+ * may run in several threads at once. This header is not part of the proof: nothing checks it against the source but the
+ * tests that call through it. All that the functions ask of the caller is what C asks of any call:
  *
  *   - each pointer leads to as many elements as the length behind it says (a length counts elements, not bytes);
  *   - no pointer is NULL, not even one with a length of 0: then any address that is aligned for the type will do;
@@ -100,7 +101,9 @@ extern "C" {
  *   conflict of the equations        conflict is filled, the others are zeros
  *   refusal                          see above
  *
- * Any conflict means that no whole numbers satisfy the system; with k = 0, open means that some do. */
+ * Any conflict means that no whole numbers satisfy the system. With k = 0, open means that some do. With k > 0 it means that
+ * some satisfy the equations and that no conflict was found in one inequality or in two opposite ones; whether some satisfy the
+ * inequalities too is then not decided: x1 >= 1, x2 >= 1, x1 + x2 <= 1 is open. */
 uint32_t plassobine_solve(
     size_t n, size_t m, size_t k,
     const int64_t *equations, size_t equations_length,

@@ -38,7 +38,7 @@ module _ {text : List ℕ} (a : Answers text) where
         → NoneNamed (a .matrix) (a .n) line
     unfolding printed ofOutcome
     unsat-named (Open steps) line tells e = absurd (open-not-unsat (a .k) _ line e)
-    unsat-named (EquationConflict row steps) line (equationConflict unmet) e =
+    unsat-named (EquationConflict row steps) line (equationConflict unmet others) e =
         subst (NoneNamed (a .matrix) (a .n)) (append-cancel-left unsat _ line e) (equations-named a results row unmet)
     unsat-named (OneRowConflict i steps) line (oneRowConflict unmet) e =
         subst (NoneNamed (a .matrix) (a .n)) (append-cancel-left unsat _ line e) (one-named a results i steps unmet)
@@ -65,7 +65,7 @@ answer-tells : {text : List ℕ} (a : Answers text) → Tells a (answer a .resul
 answer-tells a = promised (a .n) (a .m) (a .k) (packed false (a .matrix)) (packed true (a .matrix)) (blank (a .n) (a .m) (a .k))
 
 -- unsat: no whole numbers keep all rows, and none keep just those named
-pub unsat-means : (text line : List ℕ) → program text ≡ unsat ++ line → NoneFit text line
+unsat-means : (text line : List ℕ) → program text ≡ unsat ++ line → NoneFit text line
 unfolding answered
 unsat-means text line e = ⊎-elim system (λ refused. absurd (error-not-unsat (refused .0) line (sym (refused .1) ∙ e))) (answers-or-refusal text)
   where
@@ -84,7 +84,7 @@ unsat-means text line e = ⊎-elim system (λ refused. absurd (error-not-unsat (
         }
 
 -- sat: some whole numbers keep all rows
-pub sat-means : (text rest : List ℕ) → program text ≡ sat ++ rest → SomeFit text
+sat-means : (text rest : List ℕ) → program text ≡ sat ++ rest → SomeFit text
 unfolding answered
 sat-means text rest e = ⊎-elim system (λ refused. absurd (error-not-sat (refused .0) rest (sym (refused .1) ∙ e))) (answers-or-refusal text)
   where
@@ -100,3 +100,8 @@ sat-means text rest e = ⊎-elim system (λ refused. absurd (error-not-sat (refu
           long = long ∙ sym (a .unknowns);
           keeps = keeps;
         }
+
+-- what a reply means for its text, by the word that it begins with
+pub program-means : (text : List ℕ)
+    → ((line : List ℕ) → program text ≡ unsat ++ line → NoneFit text line) × ((rest : List ℕ) → program text ≡ sat ++ rest → SomeFit text)
+program-means text = (unsat-means text, sat-means text)

@@ -69,7 +69,7 @@ exactly-unmet n m k equations inequalities given = go (promised n m k equations 
     go : {numbers : List ℕ} → Says n m k equations inequalities given (solve n m k equations inequalities given .results) numbers
         → (kind numbers ≡ 4 → ⊥) → (kind numbers ≡ 1) ↔ Unsolvable n (rowsOf (suc n) m equations)
     go (opened filled) ran = some-satisfy (omega arith) filled
-    go (equationConflict unmet) ran = (λ e. unmet .unsolvable, λ none. refl)
+    go (equationConflict unmet others) ran = (λ e. unmet .unsolvable, λ none. refl)
     go (oneRowConflict unmet) ran = some-satisfy (omega arith) (unmet .filled)
     go (twoRowConflict unmet) ran = some-satisfy (omega arith) (unmet .filled)
     go (untouched low due same) ran = absurd (ran refl)

@@ -133,6 +133,7 @@ module _ (n m k : ℕ) (equations inequalities : List ℤ) (given : Results) (ta
               subst (λ t. Tightened n m E t (rowNumber i I)) (sym same)
               (tightened allWithin n m E long-E wide-E s done (rowNumber i I) (long-inequality i c));
         };
+        noConflict = refl;
       }
 
       -- what holds of all equations holds of any set of them
@@ -242,7 +243,7 @@ module _ (n m k : ℕ) (equations inequalities : List ℤ) (given : Results) (ta
 
   -- ---- however it ended
   pub kept-after : (ended : Ended) → elimination n m E ≡ ended → Promised n m k equations inequalities given (afterRun n m k I ended)
-  unfolding afterRun ofOutcome
+  unfolding afterRun ofOutcome conflictFilled blank
   kept-after (finished s) e = kept-finished s e
-  kept-after (conflicting row multipliers d steps) e = equationConflict (unmet-equations row multipliers d steps e)
+  kept-after (conflicting row multipliers d steps) e = equationConflict (unmet-equations row multipliers d steps e) refl
   kept-after (tooLarge row steps) e = zeroed {number = 4} (omega arith) (four taken (listed-large n m E long-E wide-E row steps e)) refl

@@ -6,7 +6,7 @@ use mathlib.Core.List.{List, [], _∷_}
 use Prim.Native.Nat.{ℕ, suc, _≤_, _<_}
 use lib.ListN.{length, getD}
 use lib.IntN.{ℤ, pos}
-use Rattle.rows.specs.Row.{at, allWithin}
+use Rattle.rows.specs.Row.{at, zeros, allWithin}
 use Rattle.rows.specs.Table.{rowsOf}
 use Rattle.rules.specs.Elimination.{State}
 use Rattle.rules.specs.Inequalities.{sums, usedBy, tightenedRow}
@@ -26,6 +26,18 @@ shown n m steps results = record {
   marks = results .marks;
   reasons = rowsOf (suc m) n (results .reasons);
   steps = steps;
+}
+
+-- "Tables not named as filled hold zeros": the result tables without what the table conflict holds
+abbrev pub allButConflict : ℕ → Results → Results
+allButConflict m results = record {
+  substitution = results .substitution;
+  marks = results .marks;
+  wayBack = results .wayBack;
+  reasons = results .reasons;
+  conflict = zeros (suc m);
+  tightened = results .tightened;
+  used = results .used;
 }
 
 -- ---- equation conflict: "conflict filled". The equations are the flat table, as the checker takes it.
@@ -58,6 +70,7 @@ module _ (n m k : ℕ) (equations inequalities : List (List ℤ)) (steps : ℕ) 
     -- "the substitution gives every solution, each from exactly one choice, and nothing else", with the way back and the reasons
     pub solved : Solved n m equations (shown n m steps results)
     pub inequality : (i : ℕ) → Counts i k → InequalityWorked i
+    pub noConflict : results .conflict ≡ zeros (suc m)
 
   -- one-row conflict, besides: "any other conflict names rows that no whole numbers satisfy together"
   pub record OneRowUnmet (i : ℕ) : Type 0 where
@@ -84,7 +97,7 @@ module _ (n m k : ℕ) (equations inequalities : List (List ℤ)) (steps : ℕ) 
 module _ (n m k : ℕ) (equations inequalities : List ℤ) (given results : Results) where
   pub data Says : List ℕ → Type 0 where
     opened : {steps : ℕ} → Filled n m k (rowsOf (suc n) m equations) (rowsOf (suc n) k inequalities) steps results → Says (0 ∷ steps ∷ [])
-    equationConflict : {row steps : ℕ} → EquationsUnmet n m equations row results → Says (1 ∷ row ∷ steps ∷ [])
+    equationConflict : {row steps : ℕ} → EquationsUnmet n m equations row results → allButConflict m results ≡ blank n m k → Says (1 ∷ row ∷ steps ∷ [])
     oneRowConflict : {i steps : ℕ}
         → OneRowUnmet n m k (rowsOf (suc n) m equations) (rowsOf (suc n) k inequalities) steps results i → Says (2 ∷ i ∷ steps ∷ [])
     twoRowConflict : {i j steps : ℕ}
