@@ -5,5 +5,4 @@ pub mod Written
 pub mod Joined
 pub mod Spaced
 pub mod Length
-pub mod Numerals
 pub mod Replies

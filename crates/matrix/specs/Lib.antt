@@ -1,8 +1,8 @@
--- Document 01, "Text in and out", as definitions: `Grammar` says what a well-formed text is, the others how a text is read.
+-- Document 01, "Text in and out", as definitions: how a text is read, byte by byte, and all that is printed. What a well-formed text is
+-- stands in `wellformed`.
 pub mod Bytes
 pub mod Machine
 pub mod Reader
-pub mod Grammar
 pub mod Poured
 pub mod Printed
 pub mod Program

@@ -12,7 +12,7 @@ use Rattle.rows.proofs.TableLaws.{length-rowsOf}
 use Rattle.rules.specs.Outcomes.{Results}
 use Rattle.promises.specs.Meaning.{Holds, Meets, Counts, rowNumber, setNumber, InSet, SatisfiesSet}
 use Rattle.promises.specs.Answers.{EquationsUnmet, OneRowUnmet, TwoRowsUnmet}
-use Rattle.matrix.specs.Grammar.{Row}
+use Rattle.wellformed.specs.Grammar.{Row}
 use Rattle.matrix.specs.Printed.{namesOfMultipliers, namesOfRow, namesOfRows}
 use Rattle.wellformed.specs.Promised.{packed}
 use Rattle.meaning.specs.Texts.{Keeps, Name, Named, KeepsNamed, namesLine}

@@ -15,7 +15,7 @@ use Rattle.rows.specs.Row.{dot}
 use Rattle.rows.specs.Table.{rowsOf, flat, Wide}
 use Rattle.rows.proofs.TableLaws.{rowsOf-flat}
 use Rattle.promises.specs.Meaning.{point, Holds, Meets, Satisfies}
-use Rattle.matrix.specs.Grammar.{Row, Body, Matrix}
+use Rattle.wellformed.specs.Grammar.{Row, Body, Matrix}
 use Rattle.wellformed.specs.Promised.{rowsOfKind, entered, packed}
 use Rattle.wellformed.proofs.PackedRows.{row-long}
 use Rattle.meaning.specs.Texts.{Keeps, KeepsAll, Name, ofKind, Named, KeepsNamed}

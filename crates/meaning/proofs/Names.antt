@@ -14,7 +14,7 @@ use Rattle.whole.proofs.Integers.{natAbs-zero}
 use Rattle.rows.specs.Row.{at}
 use Rattle.promises.specs.Meaning.{InSet}
 use Rattle.matrix.specs.Bytes.{space}
-use Rattle.matrix.specs.Grammar.{Row}
+use Rattle.wellformed.specs.Grammar.{Row}
 use Rattle.matrix.specs.Printed.{
   decimal,
   spacedBy,

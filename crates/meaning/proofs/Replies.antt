@@ -16,7 +16,7 @@ use Rattle.rules.specs.declared.Refusal.{Refusal}
 use Rattle.rules.specs.declared.Refusal.the-variants.{LongText}
 use Rattle.rules.specs.declared.Reading.{Reading}
 use Rattle.rules.specs.declared.Reading.the-variants.{System, Unread}
-use Rattle.matrix.specs.Grammar.{Row, Says}
+use Rattle.wellformed.specs.Grammar.{Row, Says}
 use Rattle.matrix.specs.Reader.{Read, read}
 use Rattle.matrix.specs.Printed.{error}
 use Rattle.matrix.specs.Program.{answered, replied, program}

@@ -8,7 +8,7 @@ use lib.IntN.{ℤ, pos}
 use lib.Signed.{_≤ℤ_}
 use Rattle.rows.specs.Row.{dot}
 use Rattle.promises.specs.Meaning.{point}
-use Rattle.matrix.specs.Grammar.{Row, Says}
+use Rattle.wellformed.specs.Grammar.{Row, Says}
 use Rattle.matrix.specs.Printed.{decimal, spacedBy, equationLetter, inequalityLetter, openBracket, closing}
 
 -- "mark 0 for an equation, 1 for 'sum + constant >= 0', then n coefficients and the constant"

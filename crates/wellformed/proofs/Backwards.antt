@@ -4,7 +4,7 @@ use mathlib.Core.Path.{_≡_}
 use mathlib.Core.List.{List, [], _∷_}
 use Prim.Native.Nat.{ℕ}
 use Rattle.matrix.specs.Bytes.{lineFeed}
-use Rattle.matrix.specs.Grammar.{last}
+use Rattle.wellformed.specs.Grammar.{last}
 use Rattle.matrix.specs.Machine.{onClass, step}
 use Rattle.matrix.specs.Reader.{isReturn}
 use Rattle.matrix.specs.declared.Class.{Class}

@@ -1,7 +1,7 @@
 -- Bytes cut into their first line and the others, and what is asked of them.
 use mathlib.Core.List.{List, [], _∷_}
 use Prim.Native.Nat.{ℕ}
-use Rattle.matrix.specs.Grammar.{Lines, last, feed, returnFeed}
+use Rattle.wellformed.specs.Grammar.{Lines, last, feed, returnFeed}
 
 pub record Cut (R : List ℕ → List (List ℕ) → Type 0) (bytes : List ℕ) : Type 0 where
   pub line : List ℕ

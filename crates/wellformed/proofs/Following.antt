@@ -4,7 +4,7 @@ use mathlib.Core.Path.{_≡_, refl, subst}
 use mathlib.Core.List.{List, [], _∷_}
 use Prim.Native.Nat.{ℕ, zero, suc, _-_}
 use Rattle.matrix.specs.Bytes.{lineFeed, carriageReturn, commentMark}
-use Rattle.matrix.specs.Grammar.{Blanks, HeaderLine, header, Row, RowLine, row, NoLineFeed, SkippedLine, blank, comment, Lines, feed}
+use Rattle.wellformed.specs.Grammar.{Blanks, HeaderLine, header, Row, RowLine, row, NoLineFeed, SkippedLine, blank, comment, Lines, feed}
 use Rattle.matrix.specs.Machine.{inPhase}
 use Rattle.matrix.specs.Reader.{isDead}
 use Rattle.matrix.specs.declared.Phase.{Phase}

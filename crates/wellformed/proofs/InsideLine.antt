@@ -7,7 +7,7 @@ use native.Mathlib.Omega.{arith}
 use borrow.Author.Tests.{eqb-false, ltb-true}
 use lib.Dec.{eqb, ltb}
 use Rattle.matrix.specs.Bytes.{minus, digitByte}
-use Rattle.matrix.specs.Grammar.{none, row}
+use Rattle.wellformed.specs.Grammar.{none, row}
 use Rattle.matrix.specs.Machine.{onDigit, onMinus, onBlank, firstNumber, markOf, nextNumber, nextDigit, minusBegins}
 use Rattle.matrix.specs.declared.Phase.{Phase}
 use Rattle.matrix.specs.declared.Phase.the-variants.{Start, Lead, Marked, Signed, Digits, Gap, Return, Comment, Dead}

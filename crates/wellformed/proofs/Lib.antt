@@ -21,4 +21,5 @@ pub mod WellFormedRead
 pub mod PackedRows
 pub mod OnePlace
 pub mod ReadWays
+pub mod Numerals
 pub mod Promises

@@ -7,7 +7,7 @@ use native.Mathlib.Omega.{arith}
 use borrow.Author.Tests.{eqb-true}
 use lib.Dec.{eqb}
 use Rattle.matrix.specs.Bytes.{lineFeed, carriageReturn, commentMark}
-use Rattle.matrix.specs.Grammar.{none, Lines, feed, returnFeed}
+use Rattle.wellformed.specs.Grammar.{none, Lines, feed, returnFeed}
 use Rattle.matrix.specs.Machine.{onCarriageReturn, onLineFeed, onCommentMark, onOther, lineEnds}
 use Rattle.matrix.specs.Reader.{isReturn}
 use Rattle.matrix.specs.declared.Phase.{Phase}

@@ -7,7 +7,7 @@ use lib.Dec.{eqb}
 use lib.ListN.{length}
 use lib.IntN.{ℤ, negℤ}
 use Rattle.matrix.specs.Bytes.{lineFeed, commentMark, digitByte}
-use Rattle.matrix.specs.Grammar.{Numbers, HeaderLine, header, Row, RowLine, row, markByte, NoLineFeed, SkippedLine, blank, comment}
+use Rattle.wellformed.specs.Grammar.{Numbers, HeaderLine, header, Row, RowLine, row, markByte, NoLineFeed, SkippedLine, blank, comment}
 use Rattle.matrix.specs.Machine.{marked, onDigit, onClass, step}
 use Rattle.matrix.specs.Reader.{entryOf, ends}
 use Rattle.matrix.specs.declared.Class.{Class}

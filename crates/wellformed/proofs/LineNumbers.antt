@@ -10,7 +10,7 @@ use lib.Dec.{eqb·suc-zero}
 use lib.ListN.{length}
 use lib.IntN.{ℤ, pos, negℤ, negℤ-negℤ}
 use Rattle.matrix.specs.Bytes.{minus, digitByte, classOf}
-use Rattle.matrix.specs.Grammar.{AllDigits, said, Count, Number, plain, negative}
+use Rattle.wellformed.specs.Grammar.{AllDigits, said, Count, Number, plain, negative}
 use Rattle.matrix.specs.Machine.{onDigit, onClass, step}
 use Rattle.matrix.specs.Reader.{isStart, isDead, entryOf, ends}
 use Rattle.matrix.specs.declared.Class.the-variants.{Digit}

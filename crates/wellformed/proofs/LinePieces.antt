@@ -4,7 +4,7 @@ use mathlib.Core.Path.{_≡_, refl}
 use mathlib.Core.List.{List, [], _∷_, append-nil}
 use Prim.Native.Nat.{ℕ}
 use Rattle.matrix.specs.Bytes.{tab, space}
-use Rattle.matrix.specs.Grammar.{Blanks, none, aSpace, aTab, Separator, bySpace, byTab}
+use Rattle.wellformed.specs.Grammar.{Blanks, none, aSpace, aTab, Separator, bySpace, byTab}
 use Rattle.matrix.specs.Machine.{onBlank, step}
 use Rattle.matrix.specs.Reader.{isStart, isDead, ends}
 use Rattle.matrix.specs.declared.Phase.{Phase}

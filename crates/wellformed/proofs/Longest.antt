@@ -8,7 +8,7 @@ use lib.Dec.{leb}
 use lib.ListN.{length, take}
 use Rattle.rules.specs.declared.Refusal.the-variants.{OutOfRange, Malformed}
 use Rattle.matrix.specs.Bytes.{lineFeed}
-use Rattle.matrix.specs.Grammar.{WellFormed}
+use Rattle.wellformed.specs.Grammar.{WellFormed}
 use Rattle.matrix.specs.Machine.{begin, step}
 use Rattle.matrix.specs.Reader.{isDead, counted, scan}
 use Rattle.matrix.specs.declared.Machine.{Machine}

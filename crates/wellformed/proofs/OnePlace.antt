@@ -11,7 +11,7 @@ use Rattle.rules.specs.declared.Refusal.the-variants.{OutOfRange, Malformed}
 use Rattle.rules.specs.declared.Reading.{Reading}
 use Rattle.rules.specs.declared.Reading.the-variants.{System, Unread}
 use Rattle.matrix.specs.Bytes.{lineFeed}
-use Rattle.matrix.specs.Grammar.{WellFormed}
+use Rattle.wellformed.specs.Grammar.{WellFormed}
 use Rattle.matrix.specs.Machine.{step}
 use Rattle.matrix.specs.Reader.{counted}
 use Rattle.matrix.specs.declared.Machine.{Machine}

@@ -9,7 +9,7 @@ use borrow.Author.Tests.{leb-true, le-leb, not-true}
 use lib.Dec.{leb}
 use Rattle.rules.specs.declared.Refusal.the-variants.{OutOfRange}
 use Rattle.matrix.specs.Bytes.{lineFeed}
-use Rattle.matrix.specs.Grammar.{Lines, last, feed, returnFeed, WellFormed}
+use Rattle.wellformed.specs.Grammar.{Lines, last, feed, returnFeed, WellFormed}
 use Rattle.matrix.specs.Machine.{begin, step}
 use Rattle.matrix.specs.Reader.{isStart, countsFit, beyond, scan}
 use Rattle.matrix.specs.declared.Phase.{Phase}

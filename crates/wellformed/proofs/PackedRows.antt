@@ -11,7 +11,7 @@ use lib.ListN.{length, length-append, length-map}
 use lib.IntN.{ℤ, negℤ}
 use Rattle.rows.specs.Row.{zeros}
 use Rattle.rules.specs.declared.Refusal.the-variants.{OutOfRange}
-use Rattle.matrix.specs.Grammar.{Row, RowLine, row, Body, Matrix, Says}
+use Rattle.wellformed.specs.Grammar.{Row, RowLine, row, Body, Matrix, Says}
 use Rattle.matrix.specs.Machine.{begin}
 use Rattle.matrix.specs.Poured.{poured}
 use Rattle.matrix.specs.Reader.{countsFit, scan, Read, filled, read}

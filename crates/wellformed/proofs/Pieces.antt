@@ -7,8 +7,8 @@ use native.Mathlib.Omega.{arith}
 use lib.ListN.{length}
 use lib.IntN.{ℤ}
 use Rattle.matrix.specs.Bytes.{minus, digitByte}
-use Rattle.matrix.specs.Grammar.{Blanks, none, aSpace, aTab, Separator, bySpace, byTab, AllDigits, said, Count, Number, plain, negative, Numbers}
-use Rattle.matrix.specs.Grammar.{HeaderLine, header}
+use Rattle.wellformed.specs.Grammar.{Blanks, none, aSpace, aTab, Separator, bySpace, byTab, AllDigits, said, Count, Number, plain, negative, Numbers}
+use Rattle.wellformed.specs.Grammar.{HeaderLine, header}
 use Rattle.matrix.proofs.ByteKinds.{IsBlank, isSpace, isTab}
 
 pub blanks-blank : {b : ℕ} {bytes : List ℕ} → IsBlank b → Blanks bytes → Blanks (b ∷ bytes)

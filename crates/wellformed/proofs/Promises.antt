@@ -11,7 +11,7 @@ use Rattle.rows.specs.Row.{zeros}
 use Rattle.rules.specs.Numbers.{ofReading}
 use Rattle.rules.specs.declared.Refusal.the-variants.{OutOfRange, Malformed}
 use Rattle.rules.specs.declared.Reading.{Reading}
-use Rattle.matrix.specs.Grammar.{Row, Says}
+use Rattle.wellformed.specs.Grammar.{Row, Says}
 use Rattle.matrix.specs.Machine.{begin}
 use Rattle.matrix.specs.Reader.{countsFit, scan, Read, read}
 use Rattle.rules.specs.declared.Reading.the-variants.{System, Unread}

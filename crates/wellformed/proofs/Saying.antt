@@ -4,7 +4,7 @@ use mathlib.Core.Path.{_≡_}
 use mathlib.Core.List.{List, [], _∷_}
 use Prim.Native.Nat.{ℕ}
 use Rattle.matrix.specs.Bytes.{lineFeed}
-use Rattle.matrix.specs.Grammar.{Row, Body, Matrix, WellFormed}
+use Rattle.wellformed.specs.Grammar.{Row, Body, Matrix, WellFormed}
 use Rattle.matrix.specs.Machine.{begin, step}
 use Rattle.matrix.specs.Reader.{isDead}
 use Rattle.matrix.specs.declared.Machine.{Machine}

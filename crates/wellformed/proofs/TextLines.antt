@@ -7,7 +7,7 @@ use native.Mathlib.Omega.{arith}
 use lib.ListN.{length}
 use lib.IntN.{ℤ}
 use Rattle.matrix.specs.Bytes.{lineFeed}
-use Rattle.matrix.specs.Grammar.{Lines, last, feed, returnFeed}
+use Rattle.wellformed.specs.Grammar.{Lines, last, feed, returnFeed}
 use Rattle.matrix.specs.Machine.{step}
 use Rattle.matrix.specs.Reader.{isReturn, beyond, closed, numbers}
 use Rattle.matrix.specs.declared.Machine.{Machine}

@@ -7,7 +7,7 @@ use native.Mathlib.Omega.{arith}
 use borrow.Author.Tests.{leb-true, le-leb}
 use lib.Dec.{eqb, leb, eqb·suc-zero}
 use lib.IntN.{ℤ}
-use Rattle.matrix.specs.Grammar.{Row, RowLine, SkippedLine, Body, Matrix}
+use Rattle.wellformed.specs.Grammar.{Row, RowLine, SkippedLine, Body, Matrix}
 use Rattle.matrix.specs.Reader.{countsFit, beyond, counted, closed}
 use Rattle.matrix.specs.declared.Machine.{Machine}
 use Rattle.wellformed.specs.Promised.{rowsOfKind, packed}

@@ -6,7 +6,7 @@ use Prim.Native.Nat.{ℕ}
 use native.Mathlib.Nat.{zero-add}
 use Rattle.rules.specs.declared.Refusal.the-variants.{OutOfRange}
 use Rattle.matrix.specs.Bytes.{lineFeed}
-use Rattle.matrix.specs.Grammar.{Row, Matrix, Lines, last, feed, returnFeed, Says, WellFormed}
+use Rattle.wellformed.specs.Grammar.{Row, Matrix, Lines, last, feed, returnFeed, Says, WellFormed}
 use Rattle.matrix.specs.Machine.{begin, step}
 use Rattle.matrix.specs.Reader.{isReturn, countsFit, beyond, counted, closed, scan, numbersOf}
 use Rattle.matrix.specs.declared.Phase.the-variants.{Start}

@@ -1,2 +1,3 @@
--- What is promised of the reader.
+-- What a well-formed text is, and what is promised of the reader.
+pub mod Grammar
 pub mod Promised

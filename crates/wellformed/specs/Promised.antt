@@ -8,7 +8,7 @@ use lib.ListN.{length, take}
 use lib.IntN.{ℤ, negℤ}
 use Rattle.rules.specs.declared.Refusal.the-variants.{OutOfRange}
 use Rattle.matrix.specs.Bytes.{lineFeed, carriageReturn}
-use Rattle.matrix.specs.Grammar.{Row, HeaderLine, SkippedLine, Says, WellFormed}
+use Rattle.wellformed.specs.Grammar.{Row, HeaderLine, SkippedLine, Says, WellFormed}
 use Rattle.rows.specs.Row.{zeros}
 use Rattle.matrix.specs.Reader.{countsFit, Read, read}
 use Rattle.rules.specs.declared.Reading.{Reading}

@@ -1,5 +1,5 @@
 -- `coefficients::smallest` meets its contract: `best` is the column found among those from i on, and `least` the size of the number there less
--- one, or the limit where none is found. The column before i takes its place where the definition says so.
+-- one, or about the limit where none is found. The column before i takes its place where the definition says so.
 use mathlib.Core.Path.{_≡_, refl, sym, ap, _∙_}
 use mathlib.Core.Logic.{_⊎_, inl, inr, ⊎-elim}
 use mathlib.Core.List.{List}
@@ -29,9 +29,9 @@ less-one x r f e = go (decLt (r + 1) (2 ^ 64))
     go (yes l) = inr (sym e ∙ mod-eq-of-lt l)
     go (no l) = let whole : r + 1 ≡ 2 ^ 64 = omega arith in inl (sym e ∙ ap (λ y. y % 2 ^ 64) whole ∙ mod-self (2 ^ 64), omega arith)
 
--- none is found yet, or the column of the least
+-- none is found yet, and the limit itself would still be taken; or the column of the least
 abbrev Least : List ℤ → ℕ → ℕ → Type 0
-Least row best least = ((natAbs (at row best) ≡ 0) × (least ≡ 268435455)) ⊎ (natAbs (at row best) ≡ least + 1)
+Least row best least = ((natAbs (at row best) ≡ 0) × (W ≤ least + 1) × (least ≤ W)) ⊎ (natAbs (at row best) ≡ least + 1)
 
 abbrev Inv-loop : tie.InvT-loop
 Inv-loop row best₀ least₀ i₀ best least i = (i ≤ length row) × (best ≡ i + smallest (drop i row)) × Least row best least
@@ -42,7 +42,8 @@ abbrev μ-loop : tie.MeasureT-loop
 loop-holds : tie.Need-loop-holds Inv-loop μ-loop
 loop-holds c =
     let row = c .args .row .now in
-    (omega arith, omega (arith, smallest-none row), inl (ap natAbs (List·getD-eq-default row (pos 0) {n = length row} (omega arith)), refl))
+    let none : natAbs (at row (length row)) ≡ 0 = ap natAbs (List·getD-eq-default row (pos 0) {n = length row} (omega arith)) in
+    (omega arith, omega (arith, smallest-none row), inl (none, omega arith, omega arith))
 
 sub-i : tie.Need-sub-i Inv-loop μ-loop
 sub-i c = search needs
@@ -97,7 +98,7 @@ loop-again c =
     let m = c .before in
     let l = m .before .before .before .before in
     let r = m .wrapping-sub-u64 .result in
-    let low : r ≤ W = ⊎-elim (λ w. omega (arith, c .if1 .taken, w .1)) (λ w. omega (arith, c .if1 .taken, w, within m (best m))) (l .loop .inv .2) in
+    let low : r ≤ W = ⊎-elim (λ w. omega (arith, c .if1 .taken, w .2)) (λ w. omega (arith, c .if1 .taken, w, within m (best m))) (l .loop .inv .2) in
     let here : natAbs (at (row m) (i m)) ≡ r + 1 = ⊎-elim (λ w. absurd (omega (arith, low, w .1))) (λ w. w) (size m) in
     let leads : (natAbs (at (row m) (best m)) ≡ 0) ⊎ (natAbs (at (row m) (i m)) ≤ natAbs (at (row m) (best m))) =
     ⊎-elim (λ w. inl (w .0)) (λ w. inr (omega (arith, c .if1 .taken, here, w))) (l .loop .inv .2) in

@@ -7,9 +7,9 @@ use native.Mathlib.Nat.{pow-suc}
 use native.Mathlib.Omega.{arith}
 use borrow.Author.Tests.{ltb-true}
 use lib.Dec.{ltb}
 use Rattle.matrix.specs.Bytes.{digitByte}
-use Rattle.matrix.specs.Grammar.{AllDigits, said, Numeral}
+use Rattle.wellformed.specs.Grammar.{AllDigits, said, Numeral}
 use Rattle.matrix.specs.Printed.{decimalIn, decimal}
 
 -- ---- one digit more, at the end
 
