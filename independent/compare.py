@@ -23,7 +23,7 @@ import run_program
 
 FIXED_SEED = 1
 TEXTS_IN_A_PASS = 10_000
-WORKERS = 2
+WORKERS = 4
 # Texts handed to a worker at once.
 SHARE = 50
 LONGEST_SHOWN = 2_000

@@ -1,4 +1,4 @@
--- Document 01, "Text in and out", as definitions: how a text is read, byte by byte, and all that is printed. What a well-formed text is
+-- Document 01 (docs/RULES.md), "Text in and out", as definitions: how a text is read, byte by byte, and all that is printed. What a well-formed text is
 -- stands in `wellformed`.
 pub mod Bytes
 pub mod Machine

@@ -1,4 +1,4 @@
--- What document 01 promises, as statements; the theorems stand under proofs/.
+-- What document 01 (docs/RULES.md) promises, as statements; the theorems stand under proofs/.
 pub mod Meaning
 pub mod Solutions
 pub mod Rows

@@ -1,4 +1,4 @@
-// The answers of document 01, "Outcomes": each kind with its own data. Rows and columns count from 1.
+// The answers of document 01 (docs/RULES.md), "Outcomes": each kind with its own data. Rows and columns count from 1.
 
 pub enum Refusal {
     // 1: n, m or k out of range

@@ -45,7 +45,7 @@ gcd-requires : tie.Need-gcd-requires
 gcd-requires c κs = search needs
 
 same-length : tie.Need-same-length
-same-length c = search needs
+same-length c = search
 
 returns : tie.Need-returns
 returns c = let s = c .before .before .before .before .before .before .before .before in sym (work-done (s .args .n) (hand s) (later s) (state s) (sym (gcd-is (c .before)) ∙ c .if1 .taken))
@@ -90,10 +90,10 @@ enum-told : tie.Need-enum-told
 enum-told c = search needs
 
 same-length-2 : tie.Need-same-length-2
-same-length-2 c = search needs
+same-length-2 c = search
 
 same-length-3 : tie.Need-same-length-3
-same-length-3 c = search needs
+same-length-3 c = search
 
 returns-2 : tie.Need-returns-2
 returns-2 c =
