@@ -1,5 +1,6 @@
 // The library for other languages. A slice crosses as a pointer and a length; include/plassobine.h says it in C.
 // Each function answers 1, or 0 where the array for the outcome does not hold five numbers: then nothing is written.
+#![tactic(auto)]
 ghost use Rattle.std.specs.Prelude.{◌≡◌};
 ghost use Rattle.solver.specs.Answered.{tables as tables_of};
 ghost use Rattle.exports.specs.Numbered.{returned, solved, checked, read_into};

@@ -1,4 +1,5 @@
 // The PolyLib text of document 01, "Text in and out": what the reader keeps from byte to byte.
+#![tactic(auto)]
 
 // The classes that a byte can have.
 #[derive(Drop)]

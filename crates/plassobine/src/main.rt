@@ -1,5 +1,6 @@
 // Reads one system from standard input and prints the outcome: one call, one write. Where something could not be read or written, a line
 // on standard error says so, and after a failed read nothing is printed.
+#![tactic(auto)]
 ghost use Rattle.std.specs.Prelude.{◌≡◌, length};
 
 use libc::{STDERR_FILENO, STDIN_FILENO, STDOUT_FILENO};

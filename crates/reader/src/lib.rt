@@ -1,4 +1,5 @@
 // The reader of PolyLib texts: every text and every pair of tables gets a reply.
+#![tactic(auto)]
 ghost use Rattle.std.specs.Prelude.{◌≡◌, ◌≤◌, length};
 ghost use Rattle.rows.specs.Row.{zeros};
 ghost use Rattle.matrix.specs.Machine.{begin};

@@ -1,4 +1,5 @@
 // The answers of document 01 (docs/RULES.md), "Outcomes": each kind with its own data. Rows and columns count from 1.
+#![tactic(auto)]
 
 #[derive(Drop)]
 pub enum Refusal {

@@ -1,5 +1,6 @@
 // Reading to the end of an input. A read that fails is told apart from the end, whatever the reason: nothing there yet, a directory, a
 // closed descriptor.
+#![tactic(auto)]
 ghost use Rattle.std.specs.Prelude.{◌≡◌, length};
 ghost use Rattle.streams.specs.Moves.{meant, Fits, Inside};
 

@@ -1,1 +1,2 @@
 // The promises of the reader, as theorems about its definitions: proofs/ has them.
+#![tactic(auto)]

@@ -18,7 +18,7 @@ module _ {w : Width} {a b : ℤ} (f : SFits w a) (g : SFits w b) where
 
 -- an element that was read, `back z c.x.given`, or the result of a call, `back r c.f.ok`
 pub back : (z : ℤ) → mag z < 2 ^ hbits w64 → to_z w64 (of_z w64 z) ≡ z
-back z h = to_z-of_z (record { sfits = h })
+back z h = to_z-of_z {w = w64} (record { sfits = h })
 
 -- a test of a number that was read against 0 compares its bits
 pub zero-read : (z : ℤ) → mag z < 2 ^ hbits w64 → of_z w64 z ≡ 0 → z ≡ pos 0

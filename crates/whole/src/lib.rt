@@ -1,4 +1,6 @@
 // Whole numbers: the leaf functions of the run.
+#![tactic(auto)]
+
 ghost use Rattle.std.specs.Prelude.{◌≡◌, ◌≤◌, ◌<◌, ◌/◌, pos, nat_abs, ◌<ℤ◌};
 ghost use Rattle.whole.specs.Limit.{W, within as within_limit};
 ghost use Rattle.whole.specs.Gcd.{gcd as gcd_of};
