@@ -1,5 +1,6 @@
 // Rows: one loop over the numbers of a row each.
 #![tactic(auto)]
+
 ghost use Rattle.std.specs.Prelude.{◌≡◌, true, pos};
 ghost use Rattle.rows.specs.Row.{gcd_of, divided, all_within, first_beyond};
 
