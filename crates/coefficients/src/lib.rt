@@ -1,5 +1,6 @@
 // The coefficients of a row: the smallest, the quotients by it, and whether two rows are opposites.
 #![tactic(auto)]
+
 ghost use Rattle.std.specs.Prelude.{◌≡◌, ◌≤◌, true, length, pos, ◌≢◌, unsigned_abs};
 ghost use Rattle.whole.specs.Limit.{W};
 ghost use Rattle.rows.specs.Row.{smallest as smallest_of, quotients as quotients_of, opposite, all_within};
