@@ -1,5 +1,6 @@
 // A row and a multiple of another: what is left of it, and whether that is within the limit.
 #![tactic(auto)]
+
 ghost use Rattle.std.specs.Prelude.{◌≡◌, true, ◌+◌, ◌*◌, ◌≤◌, ◌^◌, nat_abs, ◌*ℤ◌, ◌-ℤ◌, length};
 ghost use Rattle.std.specs.Int.Signed.{non_neg};
 ghost use Rattle.whole.specs.Limit.{W, within};
