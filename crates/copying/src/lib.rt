@@ -1,5 +1,6 @@
 // A table copied into another, and one number put all over a table.
 #![tactic(auto)]
+
 ghost use Rattle.std.specs.Prelude.{◌≡◌, length, replicate};
 
 // The numbers of one table into another.
