@@ -1,5 +1,6 @@
 // The result tables of the run as it starts with them, and all seven as a conflict or a refusal leaves them.
 #![tactic(auto)]
+
 ghost use Rattle.std.specs.Prelude.{◌≡◌, map, suc, ◌≤◌, ◌*◌, pos, length, replicate};
 ghost use Rattle.rows.specs.Row.{unit_row};
 ghost use Rattle.rows.specs.Table.{flat};

@@ -1,5 +1,6 @@
 // One row of a table worked on in place, with the others.
 #![tactic(auto)]
+
 ghost use Rattle.std.specs.Prelude.{◌≡◌, true, ◌+◌, ◌≤◌, ◌<◌, ◌*◌, ◌^◌, pos, neg_ℤ, nat_abs, ◌+ℤ◌, ◌*ℤ◌, length};
 ghost use Rattle.whole.specs.Limit.{W};
 ghost use Rattle.rows.specs.Row.{at, less, gathered, bounded, all_within};

@@ -1,5 +1,6 @@
 // The checks of the input: refusals 1 to 3.
 #![tactic(auto)]
+
 ghost use Rattle.std.specs.Prelude.{◌≡◌, ◌≤◌};
 ghost use Rattle.rules.specs.Outcomes.{in_range};
 ghost use Rattle.limits.specs.Checked.{lengths_right, entries_checked, table_checked};

@@ -1,5 +1,6 @@
 // Steps (a) and (d) on one row, with its multipliers and its divisor.
 #![tactic(auto)]
+
 ghost use Rattle.std.specs.Prelude.{◌≡◌, true, ◌≤◌, ◌<◌, ◌/◌, pos, length};
 ghost use Rattle.whole.specs.Limit.{W};
 ghost use Rattle.rows.specs.Row.{divided, all_within};

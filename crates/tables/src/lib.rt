@@ -1,5 +1,6 @@
 // Tables of rows: one loop over the rows of a table each.
 #![tactic(auto)]
+
 ghost use Rattle.std.specs.Prelude.{◌≡◌, true, map, ◌≤◌, ◌<◌, ◌*◌, length};
 ghost use Rattle.rows.specs.Row.{at, less, gathered, all_within};
 ghost use Rattle.rows.specs.Table.{rows_of, flat};
