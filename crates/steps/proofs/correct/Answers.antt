@@ -94,7 +94,7 @@ product-f-requires c =
 
 -- the code's f
 factor-is : (c : After-product-f) → let s = c.before.before.before.before.before.before.before in
-    to_z w64 (of_z w64 c.product-f.result) ≡ factor s.args.k s.args.d (entry s.before.before.before.before.before.before.before)
+    to_z w64 (of_z w64 c.product-f.result) ≡ factor s.args.k s.args.d (entry s)
 unfolding factor
 factor-is c =
     let g = c in

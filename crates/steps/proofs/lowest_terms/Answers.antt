@@ -15,6 +15,7 @@ use Rattle.rows.proofs.Divisors.{length-divided}
 use Rattle.rules.specs.Elimination.{shared}
 use Rattle.steps.proofs.CorrectedRow.{shared-nonzero, shared-le, shared-one, divided-one}
 use Rattle.steps.proofs.lowest_terms.Goals.{After-gcd-g, After-signed, Joined-g-ne1, Start}
+use Rattle.steps.proofs.lowest_terms.Goals.{then-g-ne1, else-g-ne1}
 use Rattle.steps.proofs.lowest_terms.Goals as goal
 
 abbrev entry : After-gcd-g → Start
@@ -59,10 +60,10 @@ made : (c : Joined-g-ne1) → let s = entry c.before in
     c.if-g-ne1.multipliers ≡ divided (pos c.gcd-g.result) s.args.multipliers.now
 made c =
     let l = (entry c.before).args.multipliers.now in
-    ⊎_elim {C = c.if-g-ne1.multipliers ≡ divided (pos c.gcd-g.result) l}
-    (λ x. x.5 ∙ x.3.ensures ∙ ap (λ (z : ℤ). divided z l) (back x.2.result x.2.ok ∙ x.2.ensures))
-    (λ x. x.1 ∙ sym (divided-one l) ∙ ap (λ (g : ℕ). divided (pos g) l) (sym x.0.left))
-    c.if-g-ne1.branch
+    elim c.if-g-ne1.branch [
+      then-g-ne1 x ↦ x.multipliers-is ∙ x.divide.ensures ∙ ap (λ (z : ℤ). divided z l) (back x.signed.result x.signed.type_inv ∙ x.signed.ensures)
+      | else-g-ne1 x ↦ x.multipliers-is ∙ sym (divided-one l) ∙ ap (λ (g : ℕ). divided (pos g) l) (sym x.if-g-ne1.false)
+    ]
 
 pub shape_of-multipliers : goal.shape_of-multipliers
 shape_of-multipliers c =

@@ -22,6 +22,7 @@ use Rattle.rows.proofs.TableLaws.{length-row_at}
 use Rattle.tables.proofs.Rowed.{rows_start}
 use Rattle.tables.proofs.Multiples.{less_zero, within-row, opposite-bits, gathered_none, gathered-more, sum-start, sum_fits, sum_past, sum_more}
 use Rattle.tables.proofs.gather.Goals.{At-loop-r, In-loop-r}
+use Rattle.tables.proofs.gather.Goals.{then-c-ne0, else-c-ne0}
 use Rattle.tables.proofs.gather.Goals as goal
 
 -- the row of a turn lies within the table
@@ -84,25 +85,23 @@ loop-r-preserved c =
     let t = s.args.table.now in
     let a = at cs r in
     let more = gathered-more row cs w r t (omega arith) in
-    ⊎_elim
-    (λ x.
-    let done = rw (add-sub_cancel_left (r * w) w, opposite-bits a (small l)) at x.3.ensures.0 in
-    rw (x.5, done) (
+    elim c.if-c-ne0.branch [ then-c-ne0 x ↦
+    let done = rw (add-sub_cancel_left (r * w) w, opposite-bits a (small l)) at x.less_multiple.ensures.row in
+    rw (x.row-is, done) (
       omega arith,
       length-less row (neg_ℤ a) (row_at w r t) ∙ l.loop-r.invariant.1,
       sum_more r row a (row_at w r t) (small l) (row_within l) l.loop-r.invariant.2,
       sym more ∙ l.loop-r.invariant.3,
-    ))
-    (λ x.
-    let zero : a ≡ pos 0 = sym (back a c.c-1.given) ∙ ap (to_z w64) x.0.left in
+    )
+    | else-c-ne0 x ↦
+    let zero : a ≡ pos 0 = sym (back a c.c-1.given) ∙ ap (to_z w64) x.if-c-ne0.false in
     let same : less row (neg_ℤ a) (row_at w r t) ≡ row = ap (λ (z : ℤ). less row (neg_ℤ z) (row_at w r t)) zero ∙ less_zero row (row_at w r t) in
-    rw x.1 (
+    rw x.row-is (
       omega arith,
       l.loop-r.invariant.1,
       sum_past r row l.loop-r.invariant.2,
       rw same at (sym more ∙ l.loop-r.invariant.3),
-    ))
-    c.if-c-ne0.branch
+    ) ]
 
 pub returns : goal.returns
 returns c =

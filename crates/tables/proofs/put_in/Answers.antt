@@ -23,6 +23,7 @@ use Rattle.tables.proofs.Rowed.{ahead_of, whole_of, ahead-start, ahead_none, ahe
 use Rattle.multiples.proofs.Blended.{within_end}
 use Rattle.tables.proofs.Multiples.{without, without-none, within-row, within-past}
 use Rattle.tables.proofs.put_in.Goals.{After-b-1, At-loop-r, In-loop-r}
+use Rattle.tables.proofs.put_in.Goals.{then-b-ne0, else-b-ne0}
 use Rattle.tables.proofs.put_in.Goals as goal
 
 -- the row of a turn lies within the table
@@ -100,24 +101,22 @@ loop-r-preserved c =
     let h = b.loop-r-test.true in
     let sweep = l.loop-r.invariant.1 in
     let more = ahead_more f w count r t h in
-    ⊎_elim
-    (λ x.
+    elim c.if-b-ne0.branch [ then-b-ne0 x ↦
     let size = add-sub_cancel_left (r * w) w in
-    let done = rw (size, read b, rowed-row f w count r sweep) at x.2.ensures in
-    let long = ap length done.0 ∙ length-less row (at row s.args.k) q ∙ length-row_at w count r t h s.requires.0 in (
+    let done = rw (size, read b, rowed-row f w count r sweep) at x.less_multiple-good.ensures in
+    let long = ap length done.row ∙ length-less row (at row s.args.k) q ∙ length-row_at w count r t h s.requires.0 in (
       omega arith,
-      rw (x.4, size) (rowed-step f w count r h sweep _ s.requires.0 done.0 long),
-      rw (x.5, done.1, and_assoc l.loop-r.fits (all_within (f row)) (all_within rest), ← bounded-append W (f row) rest, ← more) l.loop-r.invariant.2,
-    ))
-    (λ x.
-    let same : f row ≡ row = without-none s.args.k q row (sym (read b) ∙ ap (to_z w64) x.0.left) in
+      rw (x.table-is, size) (rowed-step f w count r h sweep _ s.requires.0 done.row long),
+      rw (x.fits-is, done.fits, and_assoc l.loop-r.fits (all_within (f row)) (all_within rest), ← bounded-append W (f row) rest, ← more) l.loop-r.invariant.2,
+    )
+    | else-b-ne0 x ↦
+    let same : f row ≡ row = without-none s.args.k q row (sym (read b) ∙ ap (to_z w64) x.if-b-ne0.false) in
     let answer : all_within (ahead_of f w count r t) ≡ all_within rest =
     ap all_within (more ∙ ap (λ (m : List ℤ). m ++ rest) same) ∙ within-past row rest (row_within l) in (
       omega arith,
-      rw x.1 (rowed-past f w count r h sweep same),
-      rw (x.2, ← answer) l.loop-r.invariant.2,
-    ))
-    c.if-b-ne0.branch
+      rw x.table-is (rowed-past f w count r h sweep same),
+      rw (x.fits-is, ← answer) l.loop-r.invariant.2,
+    ) ]
 
 pub returns : goal.returns
 returns c =
