@@ -1,5 +1,6 @@
 // The multiplier checker: whether the multipliers show that no whole numbers satisfy the equations, whoever made them.
 #![tactic(auto)]
+
 ghost use Rattle.std.specs.Prelude.{◌≡◌, true, suc, ◌≤◌, ◌*◌, nat_abs, length};
 ghost use Rattle.whole.specs.Gcd.{divides as divides_of};
 ghost use Rattle.rows.specs.Row.{bounded, all_within};

@@ -1,5 +1,6 @@
 // What a byte can make of the machine.
 #![tactic(auto)]
+
 ghost use Rattle.std.specs.Prelude.{◌≡◌, cond, ◌-◌, ◌≤◌};
 ghost use Rattle.matrix.specs.Machine.{in_phase, marked as marked_of, mark_of, first_number, next_number, after_minus, next_digit, minus_begins, line_ends};
 

@@ -1,5 +1,6 @@
 // An answer as five numbers in a lent array: its kind, then its values, zeros behind.
 #![tactic(auto)]
+
 ghost use Rattle.std.specs.Prelude.{◌≡◌, [], ◌∷◌, length};
 ghost use Rattle.matrix.specs.Poured.{poured};
 ghost use Rattle.numbers.specs.Numbers.{five, four_of};

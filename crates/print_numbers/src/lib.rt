@@ -1,6 +1,7 @@
 // Bytes and numbers, each written from a place of a lent page on; the answer is the place behind them. What finds no room is left
 // out.
 #![tactic(auto)]
+
 ghost use Rattle.std.specs.Prelude.{◌≡◌, [], ◌∷◌, ◌+◌, ◌<◌, pos, nat_abs};
 ghost use Rattle.std.specs.Int.Signed.{lt_z};
 ghost use Rattle.matrix.specs.Poured.{page, put, written};

@@ -1,5 +1,6 @@
 // The reason of a closed column: made of the multipliers of its row, and noted.
 #![tactic(auto)]
+
 ghost use Rattle.std.specs.Prelude.{◌≡◌, true, [], ◌∷◌, ◌++◌, suc, ◌≤◌, ◌<◌, ◌*◌, pos, nat_abs, length, set};
 ghost use Rattle.whole.specs.Limit.{W};
 ghost use Rattle.rows.specs.Row.{scaled, all_within};

@@ -1,5 +1,6 @@
 // The parts of the work on one inequality: the substitution put in, open columns, tightening.
 #![tactic(auto)]
+
 ghost use Rattle.std.specs.Prelude.{◌≡◌, true, suc, ◌≤◌, ◌*◌, length};
 ghost use Rattle.rows.specs.Row.{all_within};
 ghost use Rattle.rows.specs.Table.{rows_of};

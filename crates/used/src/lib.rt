@@ -1,5 +1,6 @@
 // The set of the equations that an inequality used: those that the reasons of its closed columns name.
 #![tactic(auto)]
+
 ghost use Rattle.std.specs.Prelude.{◌≡◌, cond, [], ◌∷◌, ◌++◌, ℕ, suc, ◌+◌, ◌≤◌, ◌<◌, ◌*◌, length, take, get_or};
 ghost use Rattle.rules.specs.Inequalities.{used_by};
 ghost use Rattle.used.specs.Carrying.{carries as carries_of, carrying as carrying_of, among};
