@@ -153,7 +153,8 @@ blended-is : (c : After-blend) →
     let s = c.before.before.before.before.before.before.before.before.before.before.before.before.before in let a = s.args in
     (c.blend.new.row ≡ blended a.k a.d a.reason.now (entry s)) × (c.blend.result ≡ all_within (blended a.k a.d a.reason.now (entry s)))
 blended-is c =
-    rw (share-read c.before, factor-is c.before.before.before.before.before.before) at c.blend.ensures
+    let e = rw (share-read c.before, factor-is c.before.before.before.before.before.before) at c.blend.ensures in
+    (e.row, e.fits)
 
 pub returns-then-not-blend : goal.returns-then-not-blend
 returns-then-not-blend c =
