@@ -1,5 +1,6 @@
 // The rows in order, up to the first that is in conflict or grows too large.
 #![tactic(auto)]
+
 ghost use Rattle.std.specs.Prelude.{◌≡◌, suc, length};
 ghost use Rattle.rows.specs.Row.{all_within};
 ghost use Rattle.rules.specs.Elimination.{in_order};

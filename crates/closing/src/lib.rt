@@ -1,5 +1,6 @@
 // Step (d): a column closes, and every later row loses it.
 #![tactic(auto)]
+
 ghost use Rattle.std.specs.Prelude.{◌≡◌, true, suc, ◌≤◌, ◌<◌, ◌*◌, nat_abs, length};
 ghost use Rattle.rows.specs.Row.{all_within};
 ghost use Rattle.closing.specs.Shut.{corrected_of, shut_tables, shut_of};

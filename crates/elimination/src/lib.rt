@@ -1,5 +1,6 @@
 // The elimination run over lent tables.
 #![tactic(auto)]
+
 ghost use Rattle.std.specs.Prelude.{◌≡◌, true, suc, ◌≤◌, ◌*◌, length};
 ghost use Rattle.rows.specs.Row.{all_within};
 ghost use Rattle.elimination.specs.Eliminated.{FinishedAs, outcome_of, eliminated};

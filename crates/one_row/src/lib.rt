@@ -1,5 +1,6 @@
 // The work on one row: (a) and (b), then its steps.
 #![tactic(auto)]
+
 ghost use Rattle.std.specs.Prelude.{◌≡◌, ◌≤◌, length};
 ghost use Rattle.rows.specs.Row.{all_within};
 ghost use Rattle.rules.specs.Elimination.{work as work_of};

@@ -1,5 +1,6 @@
 // The steps of one row: (c) and (d), again and again, for at most as many steps as its bound allows.
 #![tactic(auto)]
+
 ghost use Rattle.std.specs.Prelude.{◌≡◌, ◌≤◌, ◌<◌, nat_abs, length, take};
 ghost use Rattle.whole.specs.Limit.{W};
 ghost use Rattle.rows.specs.Row.{gcd_of};

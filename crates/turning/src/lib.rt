@@ -1,5 +1,6 @@
 // Step (c): the substitution of one step put into the rows, the substitution and the way back.
 #![tactic(auto)]
+
 ghost use Rattle.std.specs.Prelude.{◌≡◌, true, suc, ◌≤◌, ◌<◌, ◌*◌, pos, length, take};
 ghost use Rattle.rows.specs.Row.{at, gcd_of, smallest, all_within};
 ghost use Rattle.rows.specs.Table.{rows_of};
