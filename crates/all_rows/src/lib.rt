@@ -11,7 +11,7 @@ ghost use Rattle.steps.specs.Shown.{carried_of};
 use stepping::Working;
 
 // The answer of the run: finished with its steps, a conflict in a row, or a number that has grown too large.
-#[derive(Drop)]
+#[derive(Clone, Copy)]
 pub enum Ran {
     Finished(usize),
     Conflict { row: usize, steps: usize },

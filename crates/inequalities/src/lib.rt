@@ -7,7 +7,7 @@ ghost use Rattle.inequalities.specs.Worked.{row_shown, row_worked, rows_shown, r
 ghost use Rattle.used.specs.Shown.{shown_state};
 
 // The set that an inequality used, or that one of its sums is beyond the limit.
-#[derive(Drop)]
+#[derive(Clone, Copy)]
 pub enum Sums {
     Used(u64),
     TooFar,

@@ -8,7 +8,7 @@ ghost use Rattle.limits.specs.Checked.{lengths_right, entries_checked, table_che
 use rules::Refusal;
 
 // Whether all entries are within the limit, or the refusal of the first that is not.
-#[derive(Drop)]
+#[derive(Clone, Copy)]
 pub enum Entries {
     Good,
     Bad(Refusal),

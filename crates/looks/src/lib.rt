@@ -7,7 +7,7 @@ ghost use Rattle.rows.specs.Table.{rows_of};
 ghost use Rattle.rules.specs.Inequalities.{first_row, alone, against, first_pair};
 
 // Two rows in conflict, counting from 1; 0, 0 where there are none.
-#[derive(Drop)]
+#[derive(Clone, Copy)]
 pub struct Pair {
     pub i: usize,
     pub j: usize,

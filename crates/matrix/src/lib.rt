@@ -2,7 +2,7 @@
 #![tactic(auto)]
 
 // The classes that a byte can have.
-#[derive(Drop)]
+#[derive(Clone, Copy)]
 pub enum Class {
     Digit(u8),
     Minus,
@@ -14,7 +14,7 @@ pub enum Class {
 }
 
 // Where in its line the reader stands.
-#[derive(Drop)]
+#[derive(Clone, Copy)]
 pub enum Phase {
     // before a line's first byte
     Start,
@@ -36,7 +36,7 @@ pub enum Phase {
     Dead,
 }
 
-#[derive(Drop)]
+#[derive(Clone, Copy)]
 pub struct Machine {
     pub phase: Phase,
     // whether the header line is read

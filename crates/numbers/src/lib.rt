@@ -26,7 +26,7 @@ fn put(into: &mut [u64], kind: u64, a: usize, b: usize, c: usize, d: usize)
 }
 
 // What a refusal carries: its number, then its fields, `count` in all, and zeros behind.
-#[derive(Drop)]
+#[derive(Clone, Copy)]
 pub struct Carried {
     pub count: usize,
     pub number: usize,

@@ -1,7 +1,7 @@
 // The answers of document 01 (docs/RULES.md), "Outcomes": each kind with its own data. Rows and columns count from 1.
 #![tactic(auto)]
 
-#[derive(Drop)]
+#[derive(Clone, Copy)]
 pub enum Refusal {
     // 1: n, m or k out of range
     OutOfRange,
@@ -30,7 +30,7 @@ pub enum Refusal {
     LongText,
 }
 
-#[derive(Drop)]
+#[derive(Clone, Copy)]
 pub enum Outcome {
     Open { steps: usize },
     EquationConflict { row: usize, steps: usize },
@@ -40,7 +40,7 @@ pub enum Outcome {
 }
 
 // The answer of the multiplier checker.
-#[derive(Drop)]
+#[derive(Clone, Copy)]
 pub enum Verdict {
     Yes,
     No,
@@ -48,7 +48,7 @@ pub enum Verdict {
 }
 
 // What the reader answers.
-#[derive(Drop)]
+#[derive(Clone, Copy)]
 pub enum Reading {
     System { n: usize, m: usize, k: usize },
     Unread(Refusal),

@@ -9,7 +9,7 @@ ghost use Rattle.stepping.specs.Worked.{state_of, in_hand, steps_from, work_show
 ghost use Rattle.steps.specs.Shown.{later_of};
 
 // The answer of the work on a row: passed, with the steps so far; a conflict with its D; a listed number too large.
-#[derive(Drop)]
+#[derive(Clone, Copy)]
 pub enum Working {
     Passed(usize),
     Unmet(u64, usize),

@@ -8,7 +8,7 @@ ghost use Rattle.rules.specs.Elimination.{shared, reduced, listed_a, corrected, 
 ghost use Rattle.steps.specs.Shown.{tried, carry, kept_row, Divisor};
 
 // The divisor of a row, or that a listed number is beyond the limit.
-#[derive(Drop)]
+#[derive(Clone, Copy)]
 pub enum Kept {
     Fits(u64),
     Beyond,

@@ -6,7 +6,6 @@ use Prim.Native.Nat.{ℕ, suc, ◌+◌, ◌*◌}
 use native.Mathlib.Nat.{le_trans}
 use native.Mathlib.Numerals.{add-one}
 use native.Mathlib.Omega.{arith}
-use borrow.Author.Rules.{rules}
 use lib.IntN.{pos, nat_abs}
 use lib.ListN.{take}
 use lib.Seq.{length-take-le}
@@ -23,38 +22,9 @@ use Rattle.rules.specs.Checker.{divides_all, good_d}
 use Rattle.limits.proofs.Verdicts.{one-bad}
 use Rattle.checker.proofs.Judged.{multiplier-bad, d-bad, d-good, d-negative, d-large, d-right, d-size, refutes-is, not-refuted}
 use Rattle.checker.proofs.Combined.{within-zeros}
-use Rattle.checker.proofs.judge.Places.{multipliers, many, good, d_of, entry, most, d-fits, read, sized, start, total, lent, lent_length, row, row-length, constant, coefficients, fits, divided, divided-all}
+use Rattle.checker.proofs.judge.Answers.Places.{multipliers, many, good, d_of, entry, most, d-fits, read, sized, start, total, lent, lent_length, row, row-length, constant, coefficients, fits, divided, divided-all}
 use Rattle.checker.proofs.judge.Goals.{Else-d-gt72057594037927936}
 use Rattle.checker.proofs.judge.Goals as goal
-
--- `checker::judge` meets its contract: the multipliers and D are checked, the equations are gathered in a row of 0s, and what D divides
--- of that row decides.
-use mathlib.Core.Path.{◌≡◌, refl, sym, ap, ap₂, ◌∙◌}
-use mathlib.Core.Bool.{Bool, true, false}
-use Prim.Native.Nat.{ℕ, suc, ◌+◌, ◌*◌}
-use native.Mathlib.Nat.{le_trans}
-use native.Mathlib.Numerals.{add-one}
-use native.Mathlib.Omega.{arith}
-use borrow.Author.Rules.{rules}
-use lib.IntN.{pos, nat_abs}
-use lib.ListN.{take}
-use lib.Seq.{length-take-le}
-use mir.Syntax.{w64}
-use mir.Facts.{sfits_lit}
-use Rattle.whole.proofs.Bounds.{bits-le}
-use Rattle.whole.proofs.Taken.{lt-taken, lt-left}
-use Rattle.rows.specs.Row.{at, all_within, bounded, first_beyond}
-use Rattle.rows.specs.Table.{rows_of}
-use Rattle.rows.proofs.Bounded.{bounded_at, bounded-take}
-use Rattle.rules.specs.declared.Refusal.TheVariants.{BadEntry}
-use Rattle.rules.specs.declared.Verdict.TheVariants.{NotChecked}
-use Rattle.rules.specs.Checker.{divides_all, good_d}
-use Rattle.limits.proofs.Verdicts.{one-bad}
-use Rattle.checker.proofs.Judged.{multiplier-bad, d-bad, d-good, d-negative, d-large, d-right, d-size, refutes-is, not-refuted}
-use Rattle.checker.proofs.Combined.{within-zeros}
-use Rattle.checker.proofs.judge.Statement.{statement}
-use Rattle.checker.proofs.judge.Tie as tie
-use Rattle.checker.proofs.judge.Proof.Places.{multipliers, many, good, d_of, entry, most, d-fits, read, sized, start, total, lent, lent_length, row, row-length, constant, coefficients, fits, divided, divided-all}
 mod Places
 
 pub slice_bounds-first_beyond-end : goal.slice_bounds-first_beyond-end
@@ -155,7 +125,7 @@ divides_all-requires c =
 pub returns-then-divides_all : goal.returns-then-divides_all
 returns-then-divides_all c =
     let o = c in
-    let k = sized o.before.before.before.before in
+    let k = sized o.before.before.before.before.before.before.before in
     let s = start k in
     let a = s.args in
     d-good a.n a.m a.equations.now a.table.now (good (read k.before).before) (right k.before) true
@@ -166,7 +136,7 @@ returns-then-divides_all c =
 pub returns : goal.returns
 returns c =
     let o = c in
-    let k = sized o.before.before.before.before in
+    let k = sized o.before.before.before.before.before.before.before in
     let s = start k in
     let a = s.args in
     d-good a.n a.m a.equations.now a.table.now (good (read k.before).before) (right k.before) false

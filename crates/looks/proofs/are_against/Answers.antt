@@ -32,7 +32,7 @@ overflow_add-c c =
 abbrev sum : Start → ℤ
 sum s = at s.args.row.now s.args.n +ℤ at s.args.other.now s.args.n
 
-tested : (c : After-d-1) → let s = c in let n = s.args.n in
+tested : (c : After-d-1) → let s = c.before.before in let n = s.args.n in
     not (le_z (to_z w64 (of_z w64 (to_z w64 (of_z w64 (at s.args.row.now n)) +ℤ to_z w64 (of_z w64 (at s.args.other.now n))))) (pos 0)) ≡ positive (sum s)
 tested c =
     let s = c in
