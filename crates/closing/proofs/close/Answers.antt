@@ -21,7 +21,7 @@ use Rattle.closing.specs.Shut.{corrected_of}
 use Rattle.steps.proofs.Attempts.{lent_length}
 use Rattle.reasons.proofs.ShutRows.{bounded-scaled}
 use Rattle.closing.proofs.ShutTables.{rest-lent, rest_back, rows_behind, first-inside, divisors-first, divisors-behind, shut_none, shut-made}
-use Rattle.closing.proofs.close.Goals.{After-correct_later, After-correct_later-arg-1, After-correct_later-arg-3-1, After-note_reason-arg-2-1, After-reason-1, After-reason-2-1, After-reason-3-1, After-reason-4-1, After-reasons-1, After-scale_into, Start, Then-not-correct_later}
+use Rattle.closing.proofs.close.Goals.{After-correct_later, After-scale_into, Start}
 use Rattle.closing.proofs.close.Goals as goal
 
 -- the first row and its multipliers lie within the tables
@@ -98,18 +98,18 @@ ran c =
     at c.correct_later.ensures
 
 pub slice_bounds-scale_into-end : goal.slice_bounds-scale_into-end
-slice_bounds-scale_into-end (goal.at.slice_bounds-scale_into-end c).After-reason-1 = let s = c in sym (length-take-le s.args.m empty (omega arith))
+slice_bounds-scale_into-end c = let s = c in sym (length-take-le s.args.m empty (omega arith))
 
 pub slice_bounds-scale_into-end-2 : goal.slice_bounds-scale_into-end-2
-slice_bounds-scale_into-end-2 (goal.at.slice_bounds-scale_into-end-2 c).After-reason-1 = multipliers-inside (goal.at.slice_bounds-scale_into-end-2 c).Start
+slice_bounds-scale_into-end-2 c = multipliers-inside (goal.at.slice_bounds-scale_into-end-2 c).Start
 
 pub slice_bounds-scale_into-end-3 : goal.slice_bounds-scale_into-end-3
-slice_bounds-scale_into-end-3 (goal.at.slice_bounds-scale_into-end-3 c).After-reason-1 =
+slice_bounds-scale_into-end-3 c =
     let s = (goal.at.slice_bounds-scale_into-end-3 c).Start in
     sym (length-take-le s.args.m s.args.multipliers.now (multipliers-inside s))
 
 pub scale_into-requires : goal.scale_into-requires
-scale_into-requires (goal.at.scale_into-requires c).After-reason-1 =
+scale_into-requires c =
     let s = (goal.at.scale_into-requires c).Start in
     let a = s.args in
     let m = a.m in
@@ -118,25 +118,25 @@ scale_into-requires (goal.at.scale_into-requires c).After-reason-1 =
     (length-take-le m empty (omega arith) ∙ sym (length-take-le m l (multipliers-inside s)), bounded-take W m l s.requires.n_bound.1.1, omega arith)
 
 pub slice_bounds-correct_later-count : goal.slice_bounds-correct_later-count
-slice_bounds-correct_later-count (goal.at.slice_bounds-correct_later-count c).After-reason-2-1 = omega (arith, row_inside (goal.at.slice_bounds-correct_later-count c).Start)
+slice_bounds-correct_later-count c = omega (arith, row_inside (goal.at.slice_bounds-correct_later-count c).Start)
 
 pub slice_bounds-correct_later-start : goal.slice_bounds-correct_later-start
-slice_bounds-correct_later-start (goal.at.slice_bounds-correct_later-start c).After-reason-2-1 = omega (arith, row_inside (goal.at.slice_bounds-correct_later-start c).Start)
+slice_bounds-correct_later-start c = omega (arith, row_inside (goal.at.slice_bounds-correct_later-start c).Start)
 
 pub slice_bounds-correct_later-count-2 : goal.slice_bounds-correct_later-count-2
-slice_bounds-correct_later-count-2 (goal.at.slice_bounds-correct_later-count-2 c).After-correct_later-arg-1 = multipliers-inside (goal.at.slice_bounds-correct_later-count-2 c).Start
+slice_bounds-correct_later-count-2 c = multipliers-inside (goal.at.slice_bounds-correct_later-count-2 c).Start
 
 pub slice_bounds-correct_later-start-2 : goal.slice_bounds-correct_later-start-2
-slice_bounds-correct_later-start-2 (goal.at.slice_bounds-correct_later-start-2 c).After-correct_later-arg-1 = omega (arith, multipliers-inside (goal.at.slice_bounds-correct_later-start-2 c).Start)
+slice_bounds-correct_later-start-2 c = omega (arith, multipliers-inside (goal.at.slice_bounds-correct_later-start-2 c).Start)
 
 pub slice_bounds-reason-end-2 : goal.slice_bounds-reason-end-2
-slice_bounds-reason-end-2 (goal.at.slice_bounds-reason-end-2 c).After-correct_later-arg-3-1 = part-inside (goal.at.slice_bounds-reason-end-2 c).After-scale_into
+slice_bounds-reason-end-2 c = part-inside (goal.at.slice_bounds-reason-end-2 c).After-scale_into
 
 pub slice_bounds-correct_later-end-4 : goal.slice_bounds-correct_later-end-4
-slice_bounds-correct_later-end-4 (goal.at.slice_bounds-correct_later-end-4 c).After-reason-3-1 = sym (part_length (goal.at.slice_bounds-correct_later-end-4 c).After-scale_into)
+slice_bounds-correct_later-end-4 c = sym (part_length (goal.at.slice_bounds-correct_later-end-4 c).After-scale_into)
 
 pub correct_later-requires : goal.correct_later-requires
-correct_later-requires (goal.at.correct_later-requires c).After-reason-3-1 =
+correct_later-requires c =
     let z = (goal.at.correct_later-requires c).After-scale_into in
     let s = entry z in
     let a = s.args in
@@ -159,16 +159,16 @@ correct_later-requires (goal.at.correct_later-requires c).After-reason-3-1 =
       ) }
 
 pub shape_of-rows-then-not-correct_later : goal.shape_of-rows-then-not-correct_later
-shape_of-rows-then-not-correct_later (goal.at.shape_of-rows-then-not-correct_later c).Then-not-correct_later = search
+shape_of-rows-then-not-correct_later c = search
 
 pub shape_of-multipliers-then-not-correct_later : goal.shape_of-multipliers-then-not-correct_later
-shape_of-multipliers-then-not-correct_later (goal.at.shape_of-multipliers-then-not-correct_later c).Then-not-correct_later = search
+shape_of-multipliers-then-not-correct_later c = search
 
 pub shape_of-divisors-then-not-correct_later : goal.shape_of-divisors-then-not-correct_later
-shape_of-divisors-then-not-correct_later (goal.at.shape_of-divisors-then-not-correct_later c).Then-not-correct_later = search
+shape_of-divisors-then-not-correct_later c = search
 
 pub returns-then-not-correct_later : goal.returns-then-not-correct_later
-returns-then-not-correct_later (goal.at.returns-then-not-correct_later c).Then-not-correct_later =
+returns-then-not-correct_later c =
     let r = (goal.at.returns-then-not-correct_later c).After-correct_later in
     let s = entry (scaling r) in
     let a = s.args in
@@ -176,13 +176,13 @@ returns-then-not-correct_later (goal.at.returns-then-not-correct_later c).Then-n
     (rows_of (suc a.m) a.n a.reasons.now) (c.if-not-correct_later.true)
 
 pub slice_bounds-reason-end-3 : goal.slice_bounds-reason-end-3
-slice_bounds-reason-end-3 (goal.at.slice_bounds-reason-end-3 c).After-note_reason-arg-2-1 = part-inside (goal.at.slice_bounds-reason-end-3 c).After-scale_into
+slice_bounds-reason-end-3 c = part-inside (goal.at.slice_bounds-reason-end-3 c).After-scale_into
 
 pub slice_bounds-note_reason-end : goal.slice_bounds-note_reason-end
-slice_bounds-note_reason-end (goal.at.slice_bounds-note_reason-end c).After-reason-4-1 = sym (part_length (goal.at.slice_bounds-note_reason-end c).After-scale_into)
+slice_bounds-note_reason-end c = sym (part_length (goal.at.slice_bounds-note_reason-end c).After-scale_into)
 
 pub note_reason-requires : goal.note_reason-requires
-note_reason-requires (goal.at.note_reason-requires c).After-reason-4-1 =
+note_reason-requires c =
     let z = (goal.at.note_reason-requires c).After-scale_into in
     let s = entry z in
     let a = s.args in (
@@ -194,22 +194,22 @@ note_reason-requires (goal.at.note_reason-requires c).After-reason-4-1 =
     )
 
 pub shape_of-rows : goal.shape_of-rows
-shape_of-rows (goal.at.shape_of-rows c).After-reasons-1 = search
+shape_of-rows c = search
 
 pub shape_of-multipliers : goal.shape_of-multipliers
-shape_of-multipliers (goal.at.shape_of-multipliers c).After-reasons-1 = search
+shape_of-multipliers c = search
 
 pub shape_of-divisors : goal.shape_of-divisors
-shape_of-divisors (goal.at.shape_of-divisors c).After-reasons-1 = search
+shape_of-divisors c = search
 
 pub shape_of-marks : goal.shape_of-marks
-shape_of-marks (goal.at.shape_of-marks c).After-reasons-1 = search
+shape_of-marks c = search
 
 pub shape_of-reasons : goal.shape_of-reasons
-shape_of-reasons (goal.at.shape_of-reasons c).After-reasons-1 = search
+shape_of-reasons c = search
 
 pub returns : goal.returns
-returns (goal.at.returns c).After-reasons-1 =
+returns c =
     let r = (goal.at.returns c).After-correct_later in
     let z = scaling r in
     let s = entry z in

@@ -15,7 +15,7 @@ use Rattle.rules.specs.Elimination.{Carried, corrected, listed_d}
 use Rattle.steps.specs.Shown.{tried, carry, kept_row}
 use Rattle.steps.proofs.CorrectedRow.{tried-made, tried-beyond}
 use Rattle.closing.proofs.CorrectedRows.{standing, divisor-at, later-start, later-row, later-refused, later-step, later-end}
-use Rattle.closing.proofs.correct_later.Goals.{After-correct-arg-1, After-correct-arg-in-loop-r-1, After-correct-kept, After-loop-r, After-slice_known-1, After-slice_known-in-loop-r-1, In-Beyond, In-Fits, In-loop-r, Start}
+use Rattle.closing.proofs.correct_later.Goals.{After-correct-kept, In-loop-r, Start}
 use Rattle.closing.proofs.correct_later.Goals as goal
 
 -- how many multipliers a row has, what becomes of a row, and what is listed of it
@@ -52,43 +52,43 @@ same : (c : In-loop-r) → let l = c in let s = (goal.at.In-loop-r l).Start in
 same c = later-row (there c) c.loop-r.invariant.1
 
 pub loop-r-init : goal.loop-r-init
-loop-r-init (goal.at.loop-r-init c).After-slice_known-1 =
+loop-r-init c =
     let s = (goal.at.loop-r-init c).Start in
     let a = s.args in
     (omega arith, later-start a.w (width s) (made s) (listed s) a.rows.now a.multipliers.now a.divisors.now s.requires.rows_len.0 s.requires.rows_len.1)
 
 pub overflow_mul-a : goal.overflow_mul-a
-overflow_mul-a (goal.at.overflow_mul-a c).After-slice_known-in-loop-r-1 = let h = ends (goal.at.overflow_mul-a c).In-loop-r in omega arith
+overflow_mul-a c = let h = ends (goal.at.overflow_mul-a c).In-loop-r in omega arith
 
 pub overflow_mul-b : goal.overflow_mul-b
-overflow_mul-b (goal.at.overflow_mul-b c).After-slice_known-in-loop-r-1 = let h = ends (goal.at.overflow_mul-b c).In-loop-r in omega arith
+overflow_mul-b c = let h = ends (goal.at.overflow_mul-b c).In-loop-r in omega arith
 
 pub overflow_add-a : goal.overflow_add-a
-overflow_add-a (goal.at.overflow_add-a c).After-slice_known-in-loop-r-1 = let h = ends (goal.at.overflow_add-a c).In-loop-r in omega arith
+overflow_add-a c = let h = ends (goal.at.overflow_add-a c).In-loop-r in omega arith
 
 pub offset_bounds-rows-a : goal.offset_bounds-rows-a
-offset_bounds-rows-a (goal.at.offset_bounds-rows-a c).After-slice_known-in-loop-r-1 = let h = ends (goal.at.offset_bounds-rows-a c).In-loop-r in omega arith
+offset_bounds-rows-a c = let h = ends (goal.at.offset_bounds-rows-a c).In-loop-r in omega arith
 
 pub slice_bounds-correct-end : goal.slice_bounds-correct-end
-slice_bounds-correct-end (goal.at.slice_bounds-correct-end c).After-slice_known-in-loop-r-1 =
+slice_bounds-correct-end c =
     let l = c in
     let h = ends (goal.at.slice_bounds-correct-end c).In-loop-r in
     omega (arith, l.loop-r.invariant.1.rows_long, l.requires.rows_len.0)
 
 pub overflow_add-b : goal.overflow_add-b
-overflow_add-b (goal.at.overflow_add-b c).After-correct-arg-1 = let h = ends (goal.at.overflow_add-b c).In-loop-r in omega arith
+overflow_add-b c = let h = ends (goal.at.overflow_add-b c).In-loop-r in omega arith
 
 pub offset_bounds-multipliers-b : goal.offset_bounds-multipliers-b
-offset_bounds-multipliers-b (goal.at.offset_bounds-multipliers-b c).After-correct-arg-1 = let h = ends (goal.at.offset_bounds-multipliers-b c).In-loop-r in omega arith
+offset_bounds-multipliers-b c = let h = ends (goal.at.offset_bounds-multipliers-b c).In-loop-r in omega arith
 
 pub slice_bounds-correct-end-in-loop-r : goal.slice_bounds-correct-end-in-loop-r
-slice_bounds-correct-end-in-loop-r (goal.at.slice_bounds-correct-end-in-loop-r c).After-correct-arg-1 =
+slice_bounds-correct-end-in-loop-r c =
     let l = c in
     let h = ends (goal.at.slice_bounds-correct-end-in-loop-r c).In-loop-r in
     omega (arith, l.loop-r.invariant.1.multipliers-long, l.requires.rows_len.1)
 
 pub correct-kept-requires : goal.correct-kept-requires
-correct-kept-requires (goal.at.correct-kept-requires c).After-correct-arg-in-loop-r-1 =
+correct-kept-requires c =
     let o = (goal.at.correct-kept-requires c).In-loop-r in
     let l = o in
     let s = (goal.at.In-loop-r l).Start in
@@ -131,7 +131,7 @@ sizes c =
 
 -- ---- a refusal
 pub shape_of-rows-in-Beyond : goal.shape_of-rows-in-Beyond
-shape_of-rows-in-Beyond (goal.at.shape_of-rows-in-Beyond c).In-Beyond =
+shape_of-rows-in-Beyond c =
     let k = (goal.at.shape_of-rows-in-Beyond c).After-correct-kept in
     let o = (goal.at.After-correct-kept k).In-loop-r in
     let l = o in
@@ -143,7 +143,7 @@ shape_of-rows-in-Beyond (goal.at.shape_of-rows-in-Beyond c).In-Beyond =
     ∙ sym s.requires.rows_len.0)
 
 pub shape_of-multipliers-in-Beyond : goal.shape_of-multipliers-in-Beyond
-shape_of-multipliers-in-Beyond (goal.at.shape_of-multipliers-in-Beyond c).In-Beyond =
+shape_of-multipliers-in-Beyond c =
     let k = (goal.at.shape_of-multipliers-in-Beyond c).After-correct-kept in
     let o = (goal.at.After-correct-kept k).In-loop-r in
     let l = o in
@@ -155,10 +155,10 @@ shape_of-multipliers-in-Beyond (goal.at.shape_of-multipliers-in-Beyond c).In-Bey
     ∙ sym s.requires.rows_len.1)
 
 pub shape_of-divisors-in-Beyond : goal.shape_of-divisors-in-Beyond
-shape_of-divisors-in-Beyond (goal.at.shape_of-divisors-in-Beyond c).In-Beyond = c.loop-r.invariant.1.divisors-long
+shape_of-divisors-in-Beyond c = c.loop-r.invariant.1.divisors-long
 
 pub returns-in-Beyond : goal.returns-in-Beyond
-returns-in-Beyond (goal.at.returns-in-Beyond c).In-Beyond =
+returns-in-Beyond c =
     let k = (goal.at.returns-in-Beyond c).After-correct-kept in
     let o = (goal.at.After-correct-kept k).In-loop-r in
     let s = (goal.at.In-loop-r o).Start in
@@ -166,7 +166,7 @@ returns-in-Beyond (goal.at.returns-in-Beyond c).In-Beyond =
     rw (later-refused (there o) o.loop-r.invariant.1 out)
 
 pub loop-r-preserved : goal.loop-r-preserved
-loop-r-preserved (goal.at.loop-r-preserved c).In-Fits =
+loop-r-preserved c =
     let k = (goal.at.loop-r-preserved c).After-correct-kept in
     let o = (goal.at.After-correct-kept k).In-loop-r in
     let s = (goal.at.In-loop-r o).Start in
@@ -184,16 +184,16 @@ loop-r-preserved (goal.at.loop-r-preserved c).In-Fits =
 
 -- ---- the end
 pub shape_of-rows : goal.shape_of-rows
-shape_of-rows (goal.at.shape_of-rows c).After-loop-r = let s = c in c.loop-r.invariant.1.rows_long ∙ sym s.requires.rows_len.0
+shape_of-rows c = let s = c in c.loop-r.invariant.1.rows_long ∙ sym s.requires.rows_len.0
 
 pub shape_of-multipliers : goal.shape_of-multipliers
-shape_of-multipliers (goal.at.shape_of-multipliers c).After-loop-r = let s = c in c.loop-r.invariant.1.multipliers-long ∙ sym s.requires.rows_len.1
+shape_of-multipliers c = let s = c in c.loop-r.invariant.1.multipliers-long ∙ sym s.requires.rows_len.1
 
 pub shape_of-divisors : goal.shape_of-divisors
-shape_of-divisors (goal.at.shape_of-divisors c).After-loop-r = c.loop-r.invariant.1.divisors-long
+shape_of-divisors c = c.loop-r.invariant.1.divisors-long
 
 pub returns : goal.returns
-returns (goal.at.returns c).After-loop-r =
+returns c =
     let l = c in
     let s = l in
     let past : length s.args.divisors.now ≤ l.loop-r.r = omega (arith, c.loop-r-test.false, l.loop-r.invariant.1.divisors-long) in

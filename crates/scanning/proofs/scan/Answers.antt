@@ -8,7 +8,7 @@ use Rattle.matrix.specs.Reader.{scan}
 use Rattle.matrix.specs.declared.Machine.{Machine}
 use Rattle.scanning.proofs.Scanned.{behind, scan-byte, scan-end, behind-dead, behind-beyond, behind-on}
 use Rattle.machine.proofs.Kept.{begin-sound, step-sound, asked}
-use Rattle.scanning.proofs.scan.Goals.{After-at_end, After-begin-m, After-loop-place, After-shared_slice_known-in-loop-place-1, After-step-m, Else-beyond, Then-beyond, Then-is_dead}
+use Rattle.scanning.proofs.scan.Goals.{After-step-m}
 use Rattle.scanning.proofs.scan.Goals as goal
 
 -- past the byte in hand
@@ -20,18 +20,18 @@ here c =
     ∙ sym (scan-byte w.m w.place text 0 c.loop-place-test.true) ∙ w.invariant.0
 
 pub loop-place-init : goal.loop-place-init
-loop-place-init (goal.at.loop-place-init c).After-begin-m = rw c.begin-m.ensures (refl, begin-sound, omega arith)
+loop-place-init c = rw c.begin-m.ensures (refl, begin-sound, omega arith)
 
 pub step-m-requires : goal.step-m-requires
-step-m-requires (goal.at.step-m-requires c).After-shared_slice_known-in-loop-place-1 =
+step-m-requires c =
     let w = c.loop-place in
     asked w.m w.place (omega (arith, w.invariant.2, c.requires)) w.invariant.1
 
 pub returns-then-is_dead : goal.returns-then-is_dead
-returns-then-is_dead (goal.at.returns-then-is_dead c).Then-is_dead = sym (behind-dead _ _ _ (sym c.is_dead.ensures ∙ c.if-is_dead.true)) ∙ here (goal.at.returns-then-is_dead c).After-step-m
+returns-then-is_dead c = sym (behind-dead _ _ _ (sym c.is_dead.ensures ∙ c.if-is_dead.true)) ∙ here (goal.at.returns-then-is_dead c).After-step-m
 
 pub returns-then-beyond : goal.returns-then-beyond
-returns-then-beyond (goal.at.returns-then-beyond c).Then-beyond =
+returns-then-beyond c =
     sym
     (behind-beyond
     _
@@ -42,14 +42,14 @@ returns-then-beyond (goal.at.returns-then-beyond c).Then-beyond =
     ∙ here (goal.at.returns-then-beyond c).After-step-m
 
 pub loop-place-preserved : goal.loop-place-preserved
-loop-place-preserved (goal.at.loop-place-preserved c).Else-beyond =
+loop-place-preserved c =
     let o = (goal.at.loop-place-preserved c).After-step-m in
     let w = o.loop-place in
     let on = behind-on _ _ _ (sym c.is_dead.ensures ∙ c.if-is_dead.false) (sym c.beyond.ensures ∙ c.if-beyond.false) in
     (sym on ∙ here o, rw o.step-m.ensures (step-sound _ _ _ w.invariant.1), omega arith)
 
 pub at_end-requires : goal.at_end-requires
-at_end-requires (goal.at.at_end-requires c).After-loop-place = let w = c.loop-place in (w.invariant.1, omega (arith, w.invariant.2, c.requires))
+at_end-requires c = let w = c.loop-place in (w.invariant.1, omega (arith, w.invariant.2, c.requires))
 
 pub returns : goal.returns
-returns (goal.at.returns c).After-at_end = let w = c.loop-place in c.at_end.ensures ∙ sym (scan-end w.m w.place _ c.loop-place-test.false) ∙ w.invariant.0
+returns c = let w = c.loop-place in c.at_end.ensures ∙ sym (scan-end w.m w.place _ c.loop-place-test.false) ∙ w.invariant.0

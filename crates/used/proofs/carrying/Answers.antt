@@ -10,7 +10,6 @@ use Rattle.whole.proofs.Taken.{back}
 use Rattle.rows.specs.Row.{at}
 use Rattle.used.specs.Carrying.{carries as carries_of, carrying as carrying_of}
 use Rattle.used.proofs.Carried.{carrying-none, carrying-more}
-use Rattle.used.proofs.carrying.Goals.{After-loop-p, After-note-arg-1, After-slice_known-1, After-slice_known-in-loop-p-1}
 use Rattle.used.proofs.carrying.Goals as goal
 
 -- what a turn notes, with what is left
@@ -24,16 +23,16 @@ few true count p h = omega arith
 few false count p h = omega arith
 
 pub loop-p-init : goal.loop-p-init
-loop-p-init (goal.at.loop-p-init c).After-slice_known-1 = (refl, omega arith, omega arith, refl)
+loop-p-init c = (refl, omega arith, omega arith, refl)
 
 pub note-count-requires : goal.note-count-requires
-note-count-requires (goal.at.note-count-requires c).After-note-arg-1 =
+note-count-requires c =
     let l = c in
     let i = l.loop-p.invariant in
     omega (arith, i.1, i.3, c.loop-p-test.true, l.requires.1)
 
 pub loop-p-preserved : goal.loop-p-preserved
-loop-p-preserved (goal.at.loop-p-preserved c).After-slice_known-in-loop-p-1 =
+loop-p-preserved c =
     let n = c in
     let k = n in
     let i = k in
@@ -49,10 +48,10 @@ loop-p-preserved (goal.at.loop-p-preserved c).After-slice_known-in-loop-p-1 =
     (next ∙ rw there (ap (λ (x : List ℕ). take w.count w.columns ++ x) (sym (carrying-more w.p marks sums i.loop-p-test.true short))) ∙ w.invariant.0, rw n.note-count.ensures.1 (few k.carries-there.result w.count w.p w.invariant.1), omega arith, search rules)
 
 pub shape_of-columns : goal.shape_of-columns
-shape_of-columns (goal.at.shape_of-columns c).After-loop-p = c.loop-p.invariant.3
+shape_of-columns c = c.loop-p.invariant.3
 
 pub returns : goal.returns
-returns (goal.at.returns c).After-loop-p =
+returns c =
     let l = c in
     let a = l.args in
     let i = l.loop-p.invariant in

@@ -12,7 +12,7 @@ use Rattle.rows.proofs.Lists.{row-end}
 use Rattle.whole.proofs.Taken.{zero-read, nonzero-read}
 use Rattle.used.specs.Carrying.{among}
 use Rattle.used.proofs.Carried.{among-here}
-use Rattle.used.proofs.rests_on.Goals.{After-loop-i, After-shared_slice_known-1, Else-reasons-p-ne0, In-loop-i, Start, Then-reasons-p-ne0}
+use Rattle.used.proofs.rests_on.Goals.{In-loop-i}
 use Rattle.used.proofs.rests_on.Goals as goal
 
 -- the reason of a turn lies within the table
@@ -25,22 +25,22 @@ within-table c =
     rw (add-one a.m) (omega (arith, s.requires.0, row-end a.n (suc a.m) (get_or a.columns.now l.loop-i.i 0) (s.requires.4 l.loop-i.i c.loop-i-test.true)))
 
 pub loop-i-init : goal.loop-i-init
-loop-i-init (goal.at.loop-i-init c).Start = (omega arith, refl)
+loop-i-init c = (omega arith, refl)
 
 pub overflow_mul-p : goal.overflow_mul-p
-overflow_mul-p (goal.at.overflow_mul-p c).After-shared_slice_known-1 = let h = within-table (goal.at.overflow_mul-p c).In-loop-i in omega arith
+overflow_mul-p c = let h = within-table (goal.at.overflow_mul-p c).In-loop-i in omega arith
 
 pub overflow_add-p : goal.overflow_add-p
-overflow_add-p (goal.at.overflow_add-p c).After-shared_slice_known-1 = let h = within-table (goal.at.overflow_add-p c).In-loop-i in omega arith
+overflow_add-p c = let h = within-table (goal.at.overflow_add-p c).In-loop-i in omega arith
 
 pub offset_bounds-reasons-p : goal.offset_bounds-reasons-p
-offset_bounds-reasons-p (goal.at.offset_bounds-reasons-p c).After-shared_slice_known-1 = let h = within-table (goal.at.offset_bounds-reasons-p c).In-loop-i in omega arith
+offset_bounds-reasons-p c = let h = within-table (goal.at.offset_bounds-reasons-p c).In-loop-i in omega arith
 
 pub bounds-reasons-p : goal.bounds-reasons-p
-bounds-reasons-p (goal.at.bounds-reasons-p c).After-shared_slice_known-1 = let h = within-table (goal.at.bounds-reasons-p c).In-loop-i in omega arith
+bounds-reasons-p c = let h = within-table (goal.at.bounds-reasons-p c).In-loop-i in omega arith
 
 pub returns-then-reasons-p-ne0 : goal.returns-then-reasons-p-ne0
-returns-then-reasons-p-ne0 (goal.at.returns-then-reasons-p-ne0 c).Then-reasons-p-ne0 =
+returns-then-reasons-p-ne0 c =
     let i = c in
     let l = i in
     let a = l.args in
@@ -50,7 +50,7 @@ returns-then-reasons-p-ne0 (goal.at.returns-then-reasons-p-ne0 c).Then-reasons-p
     sym (among-here (suc a.m) a.j a.reasons.now a.columns.now l.loop-i.i i.loop-i-test.true ∙ rw (ne_eqb b 0 (λ z. reason (nat_abs-zero _ z))) refl) ∙ l.loop-i.invariant.1
 
 pub loop-i-preserved : goal.loop-i-preserved
-loop-i-preserved (goal.at.loop-i-preserved c).Else-reasons-p-ne0 =
+loop-i-preserved c =
     let i = c in
     let l = i in
     let a = l.args in
@@ -61,7 +61,7 @@ loop-i-preserved (goal.at.loop-i-preserved c).Else-reasons-p-ne0 =
 
 pub returns : goal.returns
 unfolding among
-returns (goal.at.returns c).After-loop-i =
+returns c =
     let l = c in
     let a = l.args in
     rw (drop_of_length-le a.columns.now c.loop-i-test.false) at l.loop-i.invariant.1

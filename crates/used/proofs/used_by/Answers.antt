@@ -10,17 +10,17 @@ use Rattle.rules.specs.Inequalities.{rests_on, used_by}
 use Rattle.used.proofs.Carried.{carrying-below, rests-among}
 use Rattle.used.proofs.Reasons.{set_from, set-none, set_next, set-fits}
 use Rattle.used.proofs.used_by.Invariants.{answer}
-use Rattle.used.proofs.used_by.Goals.{After-columns-1, After-columns-2-1, After-columns-in-loop-j-1, After-loop-j, After-rests_on, At-loop-j, Else-rests_on, In-loop-j, Start, Then-rests_on}
+use Rattle.used.proofs.used_by.Goals.{After-rests_on, At-loop-j, Start}
 use Rattle.used.proofs.used_by.Goals as goal
 
 abbrev here : Start → ℕ → Bool
 here s = let a = s.args in answer a.n a.m a.marks.now a.reasons.now a.sums.now
 
 pub carrying-count-requires : goal.carrying-count-requires
-carrying-count-requires (goal.at.carrying-count-requires c).After-columns-1 = let s = c in (s.requires.1 ∙ ap suc (sym s.requires.0), omega (arith, s.requires.0, s.requires.4))
+carrying-count-requires c = let s = c in (s.requires.1 ∙ ap suc (sym s.requires.0), omega (arith, s.requires.0, s.requires.4))
 
 pub loop-j-init : goal.loop-j-init
-loop-j-init (goal.at.loop-j-init c).After-columns-2-1 =
+loop-j-init c =
     let s = (goal.at.loop-j-init c).Start in
     let m = s.args.m in
     (omega arith, sym (set-none (here s) m) ∙ ap (set_from (here s) m) (sym (sub_self m)))
@@ -34,16 +34,16 @@ small l =
     rw l.loop-j.invariant.1 (set-fits (here s) j (m - j) (omega arith))
 
 pub overflow_mul-set : goal.overflow_mul-set
-overflow_mul-set (goal.at.overflow_mul-set c).In-loop-j = let h = small (goal.at.overflow_mul-set c).At-loop-j in omega arith
+overflow_mul-set c = let h = small (goal.at.overflow_mul-set c).At-loop-j in omega arith
 
 pub slice_bounds-columns-end : goal.slice_bounds-columns-end
-slice_bounds-columns-end (goal.at.slice_bounds-columns-end c).In-loop-j = c.carrying-count.ensures.1
+slice_bounds-columns-end c = c.carrying-count.ensures.1
 
 pub slice_bounds-rests_on-end : goal.slice_bounds-rests_on-end
-slice_bounds-rests_on-end (goal.at.slice_bounds-rests_on-end c).After-columns-in-loop-j-1 = let k = c in sym (length-take-le k.carrying-count.result k.carrying-count.new.1.1.0 k.carrying-count.ensures.1)
+slice_bounds-rests_on-end c = let k = c in sym (length-take-le k.carrying-count.result k.carrying-count.new.1.1.0 k.carrying-count.ensures.1)
 
 pub rests_on-requires : goal.rests_on-requires
-rests_on-requires (goal.at.rests_on-requires c).After-columns-in-loop-j-1 =
+rests_on-requires c =
     let k = c in
     let s = c in
     let a = s.args in
@@ -63,17 +63,17 @@ told c =
     rw (sym s.requires.0) by-columns ∙ sym (rw k.carrying-count.ensures.0 at c.rests_on.ensures)
 
 pub overflow_add-set : goal.overflow_add-set
-overflow_add-set (goal.at.overflow_add-set c).Then-rests_on = let h = small (goal.at.overflow_add-set c).At-loop-j in omega arith
+overflow_add-set c = let h = small (goal.at.overflow_add-set c).At-loop-j in omega arith
 
 pub loop-j-preserved-then-rests_on : goal.loop-j-preserved-then-rests_on
-loop-j-preserved-then-rests_on (goal.at.loop-j-preserved-then-rests_on c).Then-rests_on =
+loop-j-preserved-then-rests_on c =
     let l = c in
     let s = (goal.at.Then-rests_on l).Start in
     let more = set_next (here s) s.args.m l.loop-j.j true (omega arith) (omega arith) (told (goal.at.loop-j-preserved-then-rests_on c).After-rests_on ∙ c.if-rests_on.true) in
     (omega arith, rw l.loop-j.invariant.1 more)
 
 pub loop-j-preserved : goal.loop-j-preserved
-loop-j-preserved (goal.at.loop-j-preserved c).Else-rests_on =
+loop-j-preserved c =
     let l = c in
     let s = (goal.at.Else-rests_on l).Start in
     let more = set_next (here s) s.args.m l.loop-j.j false (omega arith) (omega arith) (told (goal.at.loop-j-preserved c).After-rests_on ∙ c.if-rests_on.false) in
@@ -81,7 +81,7 @@ loop-j-preserved (goal.at.loop-j-preserved c).Else-rests_on =
 
 pub returns : goal.returns
 unfolding used_by
-returns (goal.at.returns c).After-loop-j =
+returns c =
     let l = c in
     let s = l in
     let zero : l.loop-j.j ≡ 0 = omega arith in
