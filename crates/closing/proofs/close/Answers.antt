@@ -46,14 +46,14 @@ reason-length s =
 reason-within : (s : Start) → all_within (reason s) ≡ true
 reason-within s =
     let a = s.args in
-    bounded-scaled W a.a (take a.m a.multipliers.now) s.requires.n_bound.0.3 (bounded-take W a.m a.multipliers.now s.requires.n_bound.1.1)
+    bounded-scaled W a.a (take a.m a.multipliers.now) s.requires.n_bound.3 (bounded-take W a.m a.multipliers.now s.requires.rows_value.1)
 
 -- what holds at the start
 abbrev entry : After-scale_into → Start
 entry c = (goal.at.After-scale_into c).Start
 
 written : (c : After-scale_into) → c.scale_into.new.into ≡ reason (entry c)
-written c = let s = entry c in rw (to_z-of_z s.fits.a) at c.scale_into.ensures
+written c = let s = entry c in rw (to_z-of_z s.ranges.a) at c.scale_into.ensures
 
 written-length : (c : After-scale_into) → length c.scale_into.new.into ≡ (entry c).args.m
 written-length c = ap length (written c) ∙ reason-length (entry c)
@@ -87,7 +87,7 @@ abbrev after : After-correct_later → List Carried
 after c =
     let a = (entry (scaling c)).args in
     let l = c.correct_later.new in
-    carried_of (suc a.n) a.m l.0 l.1.0 l.1.1.0
+    carried_of (suc a.n) a.m l.rows l.multipliers l.divisors
 
 ran : (c : After-correct_later) → let s = entry (scaling c) in
     tried c.correct_later.result (after c) ≡ corrected_of s.args.k (divisor s) (reason s) (behind s)
@@ -115,7 +115,7 @@ scale_into-requires c =
     let m = a.m in
     let l = a.multipliers.now in
     rw (to_z-of_z s.ranges.a)
-    (length-take-le m empty (omega arith) ∙ sym (length-take-le m l (multipliers-inside s)), bounded-take W m l s.requires.n_bound.1.1, omega arith)
+    (length-take-le m empty (omega arith) ∙ sym (length-take-le m l (multipliers-inside s)), bounded-take W m l s.requires.rows_value.1, omega arith)
 
 pub slice_bounds-correct_later-count : goal.slice_bounds-correct_later-count
 slice_bounds-correct_later-count c = omega (arith, row_inside (goal.at.slice_bounds-correct_later-count c).Start)
@@ -150,11 +150,11 @@ correct_later-requires c =
         ap length (rest-lent w rows) ∙ rows_behind w rows ds s.requires.rows_len.2 wide ∙ sym (ap (λ (i : ℕ). i * w) behind),
         ap length (rest-lent m multipliers) ∙ rows_behind m multipliers ds s.requires.rows_len.2 s.requires.rows_len.1 ∙ sym (ap₂ ◌*◌ behind (part_length z)),
         omega arith,
-        rw (rest-lent 1 ds) (divisors-behind ds s.requires.n_bound.0.4),
-        divisors-first ds s.requires.rows_len.2 s.requires.n_bound.0.4,
+        rw (rest-lent 1 ds) (divisors-behind ds s.requires.n_bound.4),
+        divisors-first ds s.requires.rows_len.2 s.requires.n_bound.4,
       ); rows_value = (
-        ap all_within (rest-lent w rows) ∙ bounded-drop W w rows s.requires.n_bound.1.0,
-        ap all_within (rest-lent m multipliers) ∙ bounded-drop W m multipliers s.requires.n_bound.1.1,
+        ap all_within (rest-lent w rows) ∙ bounded-drop W w rows s.requires.rows_value.0,
+        ap all_within (rest-lent m multipliers) ∙ bounded-drop W m multipliers s.requires.rows_value.1,
         ap all_within (scratch-is z) ∙ reason-within s,
       ) }
 
@@ -190,7 +190,7 @@ note_reason-requires c =
       s.requires.rows_len.4 ∙ sym (ap₂ (λ (i j : ℕ). i * suc j) s.requires.rows_len.3 (part_length z)),
       omega arith,
       omega (arith, part_length z),
-      divisors-first a.divisors.now s.requires.rows_len.2 s.requires.n_bound.0.4,
+      divisors-first a.divisors.now s.requires.rows_len.2 s.requires.n_bound.4,
     )
 
 pub shape_of-rows : goal.shape_of-rows
@@ -216,10 +216,10 @@ returns c =
     let a = s.args in
     let l = r.correct_later.new in
     let noted = rw (part_length z, scratch-is z, s.requires.rows_len.3) at c.note_reason.ensures in
-    let rows = rest_back (suc a.n) a.rows.now l.0 (row_inside s) in
-    let multipliers = rest_back a.m a.multipliers.now l.1.0 (multipliers-inside s) in
-    let divisors = rest_back 1 a.divisors.now l.1.1.0 s.requires.rows_len.2 in
+    let rows = rest_back (suc a.n) a.rows.now l.rows (row_inside s) in
+    let multipliers = rest_back a.m a.multipliers.now l.multipliers (multipliers-inside s) in
+    let divisors = rest_back 1 a.divisors.now l.divisors s.requires.rows_len.2 in
     let fitted = c.if-not-correct_later.false in
     rw (add-one a.n, rows, multipliers, divisors)
     (shut-made a.k (divisor s) (reason s) (behind s) (after r) r.correct_later.result (ran r) a.marks.now
-    (rows_of (suc a.m) a.n a.reasons.now) _ _ _ fitted refl noted.0 noted.1)
+    (rows_of (suc a.m) a.n a.reasons.now) _ _ _ fitted refl noted.marks noted.reasons)

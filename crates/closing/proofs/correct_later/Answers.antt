@@ -107,7 +107,7 @@ correct-kept-requires c =
 
 -- what `correct` answers of the row, and that what comes back has the length of what was lent
 told : (c : After-correct-kept) → let o = (goal.at.After-correct-kept c).In-loop-r in let s = (goal.at.In-loop-r o).Start in
-    kept_row c.correct-kept.result c.correct-kept.new.row c.correct-kept.new.multipliers.0 ≡ tried (all_within (listed s (old o))) (made s (old o))
+    kept_row c.correct-kept.result c.correct-kept.new.row c.correct-kept.new.multipliers ≡ tried (all_within (listed s (old o))) (made s (old o))
 told c =
     let o = (goal.at.After-correct-kept c).In-loop-r in
     let s = (goal.at.In-loop-r o).Start in
@@ -116,7 +116,7 @@ told c =
     rw (add-sub_cancel_left (r * w) w, add-sub_cancel_left (r * width s) (width s), same o) at c.correct-kept.ensures
 
 sizes : (c : After-correct-kept) → let s = (goal.at.After-correct-kept c).Start in
-    (length c.correct-kept.new.row ≡ s.args.w) × (length c.correct-kept.new.multipliers.0 ≡ width s)
+    (length c.correct-kept.new.row ≡ s.args.w) × (length c.correct-kept.new.multipliers ≡ width s)
 sizes c =
     let o = (goal.at.After-correct-kept c).In-loop-r in
     let l = o in
@@ -125,8 +125,8 @@ sizes c =
     let r = l.loop-r.r in
     let n = length s.args.divisors.now in
     let kept = rw (add-sub_cancel_left (r * w) w, add-sub_cancel_left (r * width s) (width s)) at c.correct-kept.auto in (
-      kept.0 ∙ length-row_at w n r l.loop-r.rows (there o) l.loop-r.invariant.1.rows_long,
-      kept.1.0 ∙ length-row_at (width s) n r l.loop-r.multipliers (there o) l.loop-r.invariant.1.multipliers-long,
+      kept.row ∙ length-row_at w n r l.loop-r.rows (there o) l.loop-r.invariant.1.rows_long,
+      kept.multipliers ∙ length-row_at (width s) n r l.loop-r.multipliers (there o) l.loop-r.invariant.1.multipliers-long,
     )
 
 -- ---- a refusal
@@ -151,7 +151,7 @@ shape_of-multipliers-in-Beyond c =
     let m = width s in
     let r = l.loop-r.r in
     rw (add-sub_cancel_left (r * m) m)
-    (length-set_row m (length s.args.divisors.now) r l.loop-r.multipliers (there o) l.loop-r.invariant.1.multipliers-long k.correct-kept.new.multipliers.0 (sizes k).1
+    (length-set_row m (length s.args.divisors.now) r l.loop-r.multipliers (there o) l.loop-r.invariant.1.multipliers-long k.correct-kept.new.multipliers (sizes k).1
     ∙ sym s.requires.rows_len.1)
 
 pub shape_of-divisors-in-Beyond : goal.shape_of-divisors-in-Beyond
@@ -174,7 +174,7 @@ loop-r-preserved c =
     let r = o.loop-r.r in
     let d = c.in-Fits.next in
     let row = k.correct-kept.new.row in
-    let multiples = k.correct-kept.new.multipliers.0 in
+    let multiples = k.correct-kept.new.multipliers in
     let done = tried-made (all_within (listed s (old o))) (carry row multiples d) (made s (old o)) (rw c.in-Fits.is at (told k)) in
     let z = sizes k in
     rw (add-sub_cancel_left (r * w) w, add-sub_cancel_left (r * width s) (width s)) (

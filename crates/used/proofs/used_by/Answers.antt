@@ -40,14 +40,14 @@ pub slice_bounds-columns-end : goal.slice_bounds-columns-end
 slice_bounds-columns-end c = c.carrying-count.ensures.1
 
 pub slice_bounds-rests_on-end : goal.slice_bounds-rests_on-end
-slice_bounds-rests_on-end c = let k = c in sym (length-take-le k.carrying-count.result k.carrying-count.new.1.1.0 k.carrying-count.ensures.1)
+slice_bounds-rests_on-end c = let k = c in sym (length-take-le k.carrying-count.result k.carrying-count.new.columns k.carrying-count.ensures.1)
 
 pub rests_on-requires : goal.rests_on-requires
 rests_on-requires c =
     let k = c in
     let s = c in
     let a = s.args in
-    let below : (i : ℕ) → i < length (take k.carrying-count.result k.carrying-count.new.1.1.0) → get_or (take k.carrying-count.result k.carrying-count.new.1.1.0) i 0 < a.n =
+    let below : (i : ℕ) → i < length (take k.carrying-count.result k.carrying-count.new.columns) → get_or (take k.carrying-count.result k.carrying-count.new.columns) i 0 < a.n =
     rw k.carrying-count.ensures.0 (λ i h. omega (arith, carrying-below 0 a.marks.now a.sums.now i h, s.requires.0)) in
     (s.requires.2, omega arith, s.requires.3, s.requires.4, below)
 
@@ -68,14 +68,14 @@ overflow_add-set c = let h = small (goal.at.overflow_add-set c).At-loop-j in ome
 pub loop-j-preserved-then-rests_on : goal.loop-j-preserved-then-rests_on
 loop-j-preserved-then-rests_on c =
     let l = c in
-    let s = (goal.at.Then-rests_on l).Start in
+    let s = (goal.at.loop-j-preserved-then-rests_on l).Start in
     let more = set_next (here s) s.args.m l.loop-j.j true (omega arith) (omega arith) (told (goal.at.loop-j-preserved-then-rests_on c).After-rests_on ∙ c.if-rests_on.true) in
     (omega arith, rw l.loop-j.invariant.1 more)
 
 pub loop-j-preserved : goal.loop-j-preserved
 loop-j-preserved c =
     let l = c in
-    let s = (goal.at.Else-rests_on l).Start in
+    let s = (goal.at.loop-j-preserved l).Start in
     let more = set_next (here s) s.args.m l.loop-j.j false (omega arith) (omega arith) (told (goal.at.loop-j-preserved c).After-rests_on ∙ c.if-rests_on.false) in
     (omega arith, rw l.loop-j.invariant.1 (omega (arith, more)))
 
