@@ -2,13 +2,13 @@
 
 import os
 
-from command_stage import MUST_FAIL, SOURCE, WRITES, Ran, without_program
+from command_stage import MADE, MUST_FAIL, PROGRAM, SOURCE, WRITES, Ran, without_program
 from command_checks import NO_ANSWER, NO_TEXT, answered, told
 from program_checks import UNREAD
 
 BEGUN = b"plassobine: proving and building the program, once\nrt is at work\n"
 BUILT = BEGUN + b"plassobine: built in .. s\n"
-ONCE, TWICE = ("check plassobine",), ("check plassobine",) * 2
+ONCE, TWICE = ("run in plassobine",), ("run in plassobine",) * 2
 
 # As rt does where it has proved the same before.
 LEAVES_IT = "true"
@@ -16,7 +16,7 @@ FAILS = "exit 1"
 # A program that was linked, and then its own run failed.
 FAILS_AT_THE_END = "write_program; exit 1"
 # Long enough for the clock of the file system, which is coarse.
-IS_OVERTAKEN = "sleep 0.1; write_program; touch %s; sleep 0.1" % SOURCE
+IS_OVERTAKEN = "sleep 0.1; write_program; touch ../../%s; sleep 0.1" % SOURCE
 
 
 def answer(stage):
@@ -45,6 +45,23 @@ def unchanged(stage):
 def source_gone(stage):
     stage.put_rt(WRITES)
     os.remove(stage.source(SOURCE))
+    return answer(stage)
+
+
+def only_made(stage):
+    """The program where rt has left it, and not where the command puts it."""
+    os.remove(stage.source(PROGRAM))
+    stage.put_rt(LEAVES_IT)
+    return answer(stage)
+
+
+def kept_beside(stage):
+    """What a build by hand leaves beside the sources of a crate."""
+    kept = stage.source("crates/whole/out/rlib")
+    os.makedirs(kept)
+    with open(os.path.join(kept, "stamp"), "w", encoding="ascii") as file:
+        file.write("here\n")
+    stage.put_rt(WRITES)
     return answer(stage)
 
 
@@ -79,6 +96,9 @@ CHECKS = (
     ("it builds where crates.txt is newer", after("crates.txt"), BUILD),
     ("it builds where a source is gone", source_gone, BUILD),
     ("it does not build for an edit that must fail", after(MUST_FAIL), NO_BUILD),
+    ("it does not build for what rt keeps beside a crate's sources", kept_beside, NO_BUILD),
+    ("it does not build for a newer program that rt has left", after(MADE), NO_BUILD),
+    ("it asks rt where there is only the program that rt has left", only_made, BUILD),
     ("it builds once for a newer source", after(SOURCE, WRITES, 2), NO_BUILD._replace(builds=ONCE)),
     ("it builds once where rt leaves the program as it is", after(SOURCE, LEAVES_IT, 2), NO_BUILD._replace(builds=ONCE)),
     ("it builds again after a change during the build", after(SOURCE, IS_OVERTAKEN, 2), BUILD._replace(builds=TWICE)),
@@ -91,6 +111,6 @@ CHECKS = (
     ("a build after one that failed", mended, BUILD._replace(builds=TWICE)),
     (
         "a build that leaves no program", without_program(LEAVES_IT, answer),
-        Ran(2, b"", BEGUN + b"plassobine: rt has left no program; remove HERE/target and call again\n", ONCE),
+        Ran(2, b"", BEGUN + b"plassobine: rt has left no program; remove HERE/crates/plassobine/out and call again\n", ONCE),
     ),
 )

@@ -15,30 +15,34 @@ import time
 from collections import namedtuple
 
 LONGEST_RUN = 30
-TOOLS = ("bash", "cat", "cp", "date", "dirname", "find", "mkdir", "readlink", "sleep", "touch")
+TOOLS = ("bash", "cat", "cp", "date", "dirname", "find", "mkdir", "mv", "readlink", "sleep", "touch")
 
 # In seconds. Nothing has to wait for a source to become newer than the program.
 SOURCE_AGE, PROGRAM_AGE = 2_000, 1_000
 SOURCE = "crates/whole/src/lib.rt"
 MUST_FAIL = "crates/whole/must-fail/wrong.edit"
 PROGRAM = "target/bin/plassobine"
+# Where rt leaves the program.
+MADE = "crates/plassobine/out/plassobine"
 
 # fcntl.F_SETPIPE_SZ has its name only since Python 3.10. The size is that of more than the longest text.
 SET_PIPE_SIZE, PIPE_SIZE = 1031, 1 << 17
 
-# It takes all of its standard input, so that a system which is given to it by mistake is lost.
+# It takes all of its standard input, so that a system which is given to it by mistake is lost. As rt does, it says on standard error what
+# it does; on standard output comes what the program prints that it runs.
 RT = """#!/bin/sh
-echo "$*" >>%(calls)s
+echo "$* in ${PWD##*/}" >>%(calls)s
 cat >/dev/null
-echo "rt is at work"
-write_program() { mkdir -p target/bin && cp %(program)s target/bin/plassobine; }
+echo "rt is at work" >&2
+write_program() { mkdir -p out && cp %(program)s out/plassobine; }
+echo "an answer to nothing"
 %(does)s
 """
 
 # For rt to do.
 WRITES = "write_program"
 
-# builds: what rt was called with, each time since the stage was made.
+# builds: what rt was called with and in which directory, each time since the stage was made.
 Ran = namedtuple("Ran", "status printed said builds", defaults=[()])
 
 
@@ -102,13 +106,14 @@ class Stage:
         return os.path.join(self.home, name)
 
     def make_repository(self):
-        """The command, the program, and sources that are older."""
-        for name in ("crates.txt", SOURCE, MUST_FAIL, PROGRAM):
+        """The command, the program where rt has left it and where the command has put it, and sources that are older."""
+        for name in ("crates.txt", SOURCE, MUST_FAIL, MADE, PROGRAM):
             os.makedirs(os.path.dirname(self.source(name)), exist_ok=True)
             with open(self.source(name), "w", encoding="ascii") as file:
                 file.write("here\n")
         shutil.copy(self.script, self.command)
-        shutil.copy(self.program, self.source(PROGRAM))
+        for name in (MADE, PROGRAM):
+            shutil.copy(self.program, self.source(name))
         for place, directories, files in os.walk(self.home):
             for name in directories + files:
                 self.age(os.path.join(place, name), SOURCE_AGE)
@@ -156,7 +161,8 @@ def without_program(does, call):
     """The call where the program has to be built first, by an rt that does this; there is no rt where it does nothing."""
 
     def called(stage):
-        os.remove(stage.source(PROGRAM))
+        for name in (MADE, PROGRAM):
+            os.remove(stage.source(name))
         if does:
             stage.put_rt(does)
         return call(stage)

@@ -67,15 +67,15 @@ TELLING = (
     (1, 2, 0, [3, 0, 3, -1], []),
 )
 HEAD = """-- Systems of every kind of outcome, with the answers of the independent program: made by `python3 independent/theorem.py`.
-use mathlib.Core.Path.{_≡_, refl}
-use mathlib.Core.List.{List, [], _∷_, map}
-use Rattle·rules·specs.specs.declared.Refusal.the-variants.{BadEntry, TooLarge, LargeSum}
-use Rattle·rules·specs.specs.declared.Outcome.the-variants.{Open, EquationConflict, OneRowConflict, TwoRowConflict}
-use Rattle·rules·proofs.proofs.Case.{Case, p, m, answered, filled, unmet, refused}
+use mathlib.Core.Path.{◌≡◌, refl}
+use mathlib.Core.List.{List, [], ◌∷◌, map}
+use Rattle.rules.specs.declared.Refusal.TheVariants.{BadEntry, TooLarge, LargeSum}
+use Rattle.rules.specs.declared.Outcome.TheVariants.{Open, EquationConflict, OneRowConflict, TwoRowConflict}
+use Rattle.rules.proofs.Case.{Case, p, m, answered, filled, unmet, refused}
 
 """
 TAIL = """
-pub compared : map answered systems ≡ map (λ c. c .expected) systems
+pub compared : map answered systems ≡ map (λ c. c.expected) systems
 unfolding answered
 compared = refl
 """

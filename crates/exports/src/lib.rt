@@ -1,12 +1,12 @@
-// The library for other languages. A slice crosses as a pointer and a length; include/plassobine.h says it in C.
+// What other languages call, in numbers: `exports_c` hands these functions to C.
 // Each function answers 1, or 0 where the array for the outcome does not hold five numbers: then nothing is written.
 #![tactic(auto)]
+
 ghost use Rattle.std.specs.Prelude.{◌≡◌};
 ghost use Rattle.solver.specs.Answered.{tables as tables_of};
 ghost use Rattle.exports.specs.Numbered.{returned, solved, checked, read_into};
 
-#[unsafe(no_mangle)]
-pub extern "C" fn plassobine_solve(
+pub fn plassobine_solve(
     n: usize,
     m: usize,
     k: usize,
@@ -44,8 +44,7 @@ pub extern "C" fn plassobine_solve(
     1
 }
 
-#[unsafe(no_mangle)]
-pub extern "C" fn plassobine_check(
+pub fn plassobine_check(
     n: usize,
     m: usize,
     equations: &[i64],
@@ -62,8 +61,7 @@ pub extern "C" fn plassobine_check(
     1
 }
 
-#[unsafe(no_mangle)]
-pub extern "C" fn plassobine_read(
+pub fn plassobine_read(
     text: &[u8],
     equations: &mut [i64],
     inequalities: &mut [i64],
