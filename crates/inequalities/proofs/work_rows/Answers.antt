@@ -6,12 +6,11 @@ use native.Mathlib.Numerals.{add-one}
 use native.Mathlib.Omega.{arith}
 use lib.ListN.{length}
 use Rattle.rows.specs.Table.{row_at}
-use Rattle.rows.proofs.TableLaws.{length-row_at, length-set_row}
+use Rattle.rows.proofs.TableLaws.{length-row_at, length-set_row, row_fits, row-lent}
 use Rattle.tables.proofs.Multiples.{within-row}
 use Rattle.rules.specs.Elimination.{State}
 use Rattle.used.specs.Shown.{shown_state}
 use Rattle.inequalities.specs.Worked.{row_shown, row_worked}
-use Rattle.rows.proofs.TableLaws.{row_fits, row-lent}
 use Rattle.inequalities.proofs.WorkedRows.{done-start, done-step, done-large, done_end}
 use Rattle.inequalities.proofs.work_rows.Goals.{After-work_row-found, In-loop-i, Start}
 use Rattle.inequalities.proofs.work_rows.Goals as goal
@@ -89,7 +88,7 @@ size c =
     let s = (goal.at.In-loop-i l).Start in
     let n = s.args.n in
     let kept = rw (row-lent n l.loop-i.i l.loop-i.tightened) at c.work_row-found.auto in
-    kept.0 ∙ length-row_at (suc n) (count s) l.loop-i.i l.loop-i.tightened (there o) l.loop-i.invariant.1.long
+    kept.row ∙ length-row_at (suc n) (count s) l.loop-i.i l.loop-i.tightened (there o) l.loop-i.invariant.1.long
 
 pub shape_of-tightened-in-TooFar : goal.shape_of-tightened-in-TooFar
 shape_of-tightened-in-TooFar c =

@@ -8,9 +8,7 @@ use Rattle.print_names.proofs.NamesAhead.{multiplied_from}
 use Rattle.print_names.proofs.names_of_multipliers.Given as goal
 
 abbrev pub invariant-loop-i : goal.invariant-loop-i
-invariant-loop-i l = (i ≤ length multipliers) × (length out ≡ length out₀) × (written (multiplied_from multipliers before i) (page out to) ≡ written (multiplied_from multipliers open_bracket 0) (page out₀ place))
--- ?? parameters: out₀ place multipliers to₀ before₀ i₀ t8 out to before i against out place multipliers to before i out to before i
+invariant-loop-i l = (l.i ≤ length l.multipliers) × (length l.out ≡ length l.initial.out) × (written (multiplied_from l.multipliers l.before l.i) (page l.out l.to) ≡ written (multiplied_from l.multipliers open_bracket 0) (page l.initial.out l.place))
 
 abbrev pub decreases-loop-i : goal.decreases-loop-i
-decreases-loop-i l = length multipliers - i
--- ?? parameters: out₀ place multipliers to₀ before₀ i₀ t8 out to before i against out place multipliers to before i out to before i
+decreases-loop-i l = length l.multipliers - l.i

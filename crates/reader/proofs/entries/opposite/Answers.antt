@@ -20,4 +20,4 @@ pub overflow_sub-result : goal.overflow_sub-result
 overflow_sub-result c = let h = small c in rw (to_z_pos w64 h) (record { sfits = minus-fits _ _ h })
 
 pub returns : goal.returns
-returns c = let h = small c in rw (to_z_pos w64 h) (to_z-of_z (record { sfits = minus-fits _ _ h }) ∙ +ℤ_idl (neg_ℤ (pos c.args.x)))
+returns c = let h = small c in rw (to_z_pos w64 h) (to_z-of_z {w = w64} (record { sfits = minus-fits _ _ h }) ∙ +ℤ_idl (neg_ℤ (pos c.args.x)))
