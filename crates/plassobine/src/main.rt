@@ -1,9 +1,9 @@
 // Reads one system from standard input and prints the outcome: one call, one write. Where something could not be read or written, a line
 // on standard error says so, and after a failed read nothing is printed.
 #![tactic(auto)]
+
 ghost use Rattle.std.specs.Prelude.{◌≡◌, length};
 
-use libc::{STDERR_FILENO, STDIN_FILENO, STDOUT_FILENO};
 use streams::Text;
 
 // One byte more than the longest text, so that a longer one is seen.
@@ -19,27 +19,21 @@ fn page_room() -> [u8; 98304]
     [0; 98304]
 }
 
-fn reply(text: &[u8]) {
+fn reply(rt: &(impl Print + Eprint), text: &[u8]) {
     let mut page = page_room();
     let size = answering::answer(text, &mut page);
-    if !io::write_all(STDOUT_FILENO, &page[..size]) {
-        io::write_all(
-            STDERR_FILENO,
-            b"plassobine: standard output could not be written\n",
-        );
+    if rt.write_all(&page[..size]).is_err() {
+        let _ = rt.eprintln("plassobine: standard output could not be written");
     }
 }
 
-fn main() {
+fn main(rt: HostRuntime) {
     let mut room = text_room();
-    let text = streams::read_text(STDIN_FILENO, &mut room);
+    let text = streams::read_text(&mut rt.stdin(), &mut room);
     match text {
-        Text::Whole(length) => reply(&room[..length]),
+        Text::Whole(length) => reply(&rt, &room[..length]),
         Text::Unreadable => {
-            io::write_all(
-                STDERR_FILENO,
-                b"plassobine: standard input could not be read\n",
-            );
+            let _ = rt.eprintln("plassobine: standard input could not be read");
         }
     }
 }

@@ -1,2 +1,2 @@
--- What an answer of the operating system means.
+-- What an answer of a reader means.
 pub mod Moves

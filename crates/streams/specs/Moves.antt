@@ -1,15 +1,15 @@
--- "Only an end of input ends the text": what an answer of `read` or `write` means.
-use Rattle.std.specs.Prelude.{ℕ, zero, suc, ◌≤◌, ℤ, pos, negsuc}
+-- "Only an end of input ends the text": what an answer of `read` means.
+use Rattle.std.specs.Prelude.{ℕ, zero, suc, ◌≤◌, Result, Ok, Err}
 use Rattle.streams.specs.declared.Move.{Move}
 use Rattle.streams.specs.declared.Move.TheVariants.{Bytes, End, Failed}
 use Rattle.streams.specs.declared.Text.{Text}
 use Rattle.streams.specs.declared.Text.TheVariants.{Whole, Unreadable}
 
--- a negative number is a failure, and 0 the end
-unfoldable pub meant : ℤ → Move
-meant (pos zero) = End
-meant (pos (suc k)) = Bytes (suc k)
-meant (negsuc k) = Failed
+-- an error, whichever it is, is a failure, and 0 the end
+abbrev pub meant : {E : Type 0} → Result ℕ E → Move
+meant (Ok zero) = End
+meant (Ok (suc k)) = Bytes (suc k)
+meant (Err error) = Failed
 
 -- some bytes were moved, and no more than there is room for
 abbrev pub Fits : ℕ → Move → Type 0

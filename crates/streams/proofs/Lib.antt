@@ -1,2 +1,0 @@
--- Laws of what an answer of `read` means.
-mod Answers
