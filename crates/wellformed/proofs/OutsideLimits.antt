@@ -95,6 +95,7 @@ headed : {lines : List (List ℕ)} {bytes : List ℕ} → Heads any_lines lines 
 unfolding any_lines
 headed (skip skipped heads) (feed lines) = let (rows, columns, h, unfit) = headed heads lines in (rows, columns, Headed.skip skipped h, unfit)
 headed (skip skipped heads) (return_feed lines) = let (rows, columns, h, unfit) = headed heads lines in (rows, columns, Headed.skip_return skipped h, unfit)
+headed (skip {line = line} skipped heads) last = elim heads [ ]
 headed (head {rows = rows} {columns = columns} line unfit) last = (rows, columns, Headed.last line, unfit)
 headed (head {rows = rows} {columns = columns} line unfit) (feed {bytes = bytes} lines) = (rows, columns, Headed.feed bytes line, unfit)
 headed (head {rows = rows} {columns = columns} line unfit) (return_feed {bytes = bytes} lines) = (rows, columns, Headed.return_feed bytes line, unfit)

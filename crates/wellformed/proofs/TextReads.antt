@@ -103,12 +103,12 @@ module _ (which : Bool) where
   }
 
   -- behind the header line
-  body-lines : (m : Machine) {columns rows : ℕ} {matrix : List Row} {lines : List (List ℕ)} → Body columns rows matrix lines
+  body-lines : {columns : ℕ} (m : Machine) {rows : ℕ} {matrix : List Row} {lines : List (List ℕ)} → Body columns rows matrix lines
       → m.rows ≡ rows → m.columns ≡ columns → Passed true m lines rows columns matrix
-  body-lines m {columns} Body.end rows_are columns_are = passed_none m columns rows_are columns_are
-  body-lines m {columns} {rows} (Body.skip skipped body) rows_are columns_are =
+  body-lines {columns} m Body.end rows_are columns_are = passed_none m columns rows_are columns_are
+  body-lines {columns} m {rows} (Body.skip skipped body) rows_are columns_are =
       passed-skip true m (not_beyond m rows columns rows_are columns_are) skipped (body-lines m body rows_are columns_are)
-  body-lines m {columns} (Body.next {rows = rows} {r = r} {line = line} is body) rows_are columns_are =
+  body-lines {columns} m (Body.next {rows = rows} {r = r} {line = line} is body) rows_are columns_are =
       let some : eqb m.rows 0 ≡ false = rw rows_are (eqb-suc-zero rows) in
       let is' : RowLine m.columns r line = rw columns_are is in
       let first = row_line which m some is' in

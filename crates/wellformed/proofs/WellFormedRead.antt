@@ -93,6 +93,7 @@ matrix-headed : {rows columns : ℕ} {matrix : List Row} {lines : List (List ℕ
     → Headed rows columns text
 matrix-headed (Matrix.skip skipped others) (feed lines) = Headed.skip skipped (matrix-headed others lines)
 matrix-headed (Matrix.skip skipped others) (return_feed lines) = Headed.skip_return skipped (matrix-headed others lines)
+matrix-headed (Matrix.skip {line = line} skipped others) last = elim others [ ]
 matrix-headed (Matrix.head line body) last = Headed.last line
 matrix-headed (Matrix.head line body) (feed {bytes = bytes} lines) = Headed.feed bytes line
 matrix-headed (Matrix.head line body) (return_feed {bytes = bytes} lines) = Headed.return_feed bytes line

@@ -163,13 +163,13 @@ pub long-shut : (s : After-close) → let t = made s in let a = (entry t).args i
     Long a.rows.now a.multipliers.now a.divisors.now a.substitution.now a.marks.now a.back.now a.reasons.now
     y.rows y.multipliers y.divisors z.substitution y.marks z.back y.reasons
 long-shut s = let g = long-turned (made s) in let k = s.close.auto in record {
-  rows_kept = k.0 ∙ g.rows_kept;
-  multipliers_kept = k.1.0 ∙ g.multipliers_kept;
-  divisors_kept = k.1.1.0 ∙ g.divisors_kept;
+  rows_kept = k.rows ∙ g.rows_kept;
+  multipliers_kept = k.multipliers ∙ g.multipliers_kept;
+  divisors_kept = k.divisors ∙ g.divisors_kept;
   substitution_kept = g.substitution_kept;
-  marks_kept = k.1.1.1.0 ∙ g.marks_kept;
+  marks_kept = k.marks ∙ g.marks_kept;
   back_kept = g.back_kept;
-  reasons_kept = k.1.1.1.1.0 ∙ g.reasons_kept;
+  reasons_kept = k.reasons ∙ g.reasons_kept;
 }
 
 pub slice_bounds-smallest-end : goal.slice_bounds-smallest-end
