@@ -59,7 +59,7 @@ pub look-requires : goal.look-requires
 look-requires c =
     let w = (goal.at.look-requires c).After-work_rows-bad in
     let p = (entry w).requires in
-    (p.0.0, p.0.2, tightened-long w, rows_inside w c.if-bad-ne0.false)
+    (p.n_bound.0, p.n_bound.2, tightened-long w, rows_inside w c.if-bad-ne0.false)
 
 pub shape_of-substitution : goal.shape_of-substitution
 shape_of-substitution c = refl
