@@ -21,7 +21,7 @@ use Rattle.steps.specs.declared.Kept.{Kept}
 use Rattle.stepping.specs.Worked.{state_of, in_hand}
 use Rattle.one_row.proofs.Gcds.{row-gcd}
 use Rattle.one_row.proofs.Starts.{Starts, starts-same, starts-reduced, rows-enough, multipliers-enough, left_is}
-use Rattle.one_row.proofs.work.Goals.{After-gcd-g, After-over-left, After-reduce-kept, Else-g-eq0, Else-left-ne1, Joined-g-gt1, Start}
+use Rattle.one_row.proofs.work.Goals.{After-gcd-g, After-over-left, After-reduce-kept, Else-g-eq0, Else-left-ne1, Joined-g-gt1, Start, then-g-gt1+in-Fits, else-g-gt1}
 use Rattle.one_row.proofs.work.Goals as goal
 
 -- ---- at the start: the row in hand, the rows behind it, the results so far
@@ -79,20 +79,20 @@ joined j =
     let multipliers = a.multipliers.now in
     let divisors = a.divisors.now in
     let some = s.requires.in_bounds.0 in
-    ⊎_elim {C = Starts n a.m rows multipliers divisors x.rows x.multipliers x.divisors}
-    (λ w.
-    let r : After-reduce-kept = record {
-      before = record { before = record { before = record { before = record { before = j.before; if2 = w.0 }; reduce-arg = w.1 }; reduce-arg2 = w.2 }; slice-known3 = w.3 };
-      reduce = w.4;
-    } in
-    let row-long : length w.4.last.0 ≡ suc n = w.4.kept.0 ∙ row-length s ∙ add-one n in
-    let multipliers-long : length w.4.last.1.0 ≡ a.m = w.4.kept.1.0 ∙ length-take-le a.m multipliers (multipliers-inside s) in
-    let alive : 0 < gcd_of (take (suc n) rows) = omega (arith, gcd-is (goal.at.Joined-g-gt1 j).After-gcd-g, w.0.taken) in
-    rw (w.10, w.11, w.12, add-one n)
-    (starts-reduced n a.m rows multipliers divisors s.requires.working3.0 some w.4.last.0 w.4.last.1.0 w.8.given.0.0 row-long multipliers-long alive
-    (told r _ w.8.given.1)))
-    (λ w. rw (w.1, w.2, w.3) (starts-same n a.m rows multipliers divisors s.requires.working3.0 some (omega (arith, gcd-is (goal.at.Joined-g-gt1 j).After-gcd-g, w.0.left))))
-    x.branch
+    let q = (goal.at.Joined-g-gt1 j).After-gcd-g in
+    elim x.branch [
+      then-g-gt1+in-Fits w ↦
+      let row-long : length w.reduce-kept.new.row ≡ suc n = w.reduce-kept.auto.row ∙ row-length s ∙ add-one n in
+      let multipliers-long : length w.reduce-kept.new.multipliers ≡ a.m = w.reduce-kept.auto.multipliers ∙ length-take-le a.m multipliers (multipliers-inside s) in
+      let alive : 0 < gcd_of (take (suc n) rows) = omega (arith, gcd-is q, w.if-g-gt1.true) in
+      let told = rw (w.in-Fits.is, gcd-is q, add-one n) at w.reduce-kept.ensures in
+      rw (w.rows-is, w.multipliers-is, w.divisors-is, add-one n)
+      (starts-reduced n a.m rows multipliers divisors s.requires.working3.0 some w.reduce-kept.new.row w.reduce-kept.new.multipliers w.in-Fits.d
+      row-long multipliers-long alive told)
+      | else-g-gt1 w ↦
+      rw (w.rows-is, w.multipliers-is, w.divisors-is)
+      (starts-same n a.m rows multipliers divisors s.requires.working3.0 some (omega (arith, gcd-is q, w.if-g-gt1.false)))
+    ]
 
 abbrev pub start : Joined-g-gt1 → Start
 start j = (goal.at.Joined-g-gt1 j).Start
