@@ -1,5 +1,6 @@
 // The answer to a text: read, solved and printed.
 #![tactic(auto)]
+
 ghost use Rattle.std.specs.Prelude.{◌≡◌, suc, ◌≤◌, ◌*◌, length, take};
 ghost use Rattle.matrix.specs.Poured.{page as page_of, written};
 ghost use Rattle.matrix.specs.Program.{answered, program};

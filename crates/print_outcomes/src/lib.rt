@@ -1,5 +1,6 @@
 // An outcome and its tables, printed. The response words are fixed byte strings.
 #![tactic(auto)]
+
 ghost use Rattle.std.specs.Prelude.{◌≡◌, [], ◌++◌, suc, ◌-◌, ◌≤◌, ◌*◌, length, get_or, take};
 ghost use Rattle.matrix.specs.Poured.{page as page_of, written};
 ghost use Rattle.matrix.specs.Printed.{unsat, open_word, names_of_multipliers, names_of_row, names_of_rows, solved_matrix, tightened_matrix, printed};

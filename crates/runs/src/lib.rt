@@ -1,5 +1,6 @@
 // The run over the equations and then the work on the inequalities, where the checks of the input let them.
 #![tactic(auto)]
+
 ghost use Rattle.std.specs.Prelude.{◌≡◌, true, suc, ◌≤◌, ◌*◌, length};
 ghost use Rattle.rows.specs.Row.{all_within};
 ghost use Rattle.rows.specs.Table.{rows_of};

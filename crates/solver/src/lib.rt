@@ -1,5 +1,6 @@
 // One call over lent tables: nothing has to be checked before it.
 #![tactic(auto)]
+
 ghost use Rattle.std.specs.Prelude.{◌≡◌, suc, ◌≤◌, ◌*◌, length};
 ghost use Rattle.rules.specs.Outcomes.{from_entries, solve as solve_of};
 ghost use Rattle.solver.specs.Answered.{answer, tables as tables_of};
