@@ -58,11 +58,11 @@ conflict-whole m conflict long d =
 abbrev pub Asked : Ran → ℕ → ℕ → List ℤ → List ℤ → List ℕ → List ℤ → List ℤ → List ℤ → Type 0
 Asked r n m equations substitution marks back reasons conflict =
     (outcome_of r ≡ (eliminated n m equations).outcome)
-    × ((substitution ≡ (eliminated n m equations).results.substitution)
-    × ((marks ≡ (eliminated n m equations).results.marks)
-    × ((back ≡ (eliminated n m equations).results.way_back)
-    × (((reasons ≡ (eliminated n m equations).results.reasons) × (conflict ≡ (eliminated n m equations).results.conflict))
-    × FinishedAs r n m equations substitution marks back reasons))))
+    × (substitution ≡ (eliminated n m equations).results.substitution)
+    × (marks ≡ (eliminated n m equations).results.marks)
+    × (back ≡ (eliminated n m equations).results.way_back)
+    × ((reasons ≡ (eliminated n m equations).results.reasons) × (conflict ≡ (eliminated n m equations).results.conflict))
+    × FinishedAs r n m equations substitution marks back reasons
 
 module _ (n m : ℕ) (equations : List ℤ) where
   -- the fields of an answer that is known
@@ -72,19 +72,11 @@ module _ (n m : ℕ) (equations : List ℤ) where
       → Asked r n m equations substitution marks back reasons conflict
   parts r a substitution marks back reasons conflict e o s k b q c f = (
     o ∙ sym (ap (λ (x : Answer). x.outcome) e),
-    (
-      s ∙ sym (ap (λ (x : Answer). x.results.substitution) e),
-      (
-        k ∙ sym (ap (λ (x : Answer). x.results.marks) e),
-        (
-          b ∙ sym (ap (λ (x : Answer). x.results.way_back) e),
-          (
-            (q ∙ sym (ap (λ (x : Answer). x.results.reasons) e), c ∙ sym (ap (λ (x : Answer). x.results.conflict) e)),
-            f,
-          ),
-        ),
-      ),
-    ),
+    s ∙ sym (ap (λ (x : Answer). x.results.substitution) e),
+    k ∙ sym (ap (λ (x : Answer). x.results.marks) e),
+    b ∙ sym (ap (λ (x : Answer). x.results.way_back) e),
+    (q ∙ sym (ap (λ (x : Answer). x.results.reasons) e), c ∙ sym (ap (λ (x : Answer). x.results.conflict) e)),
+    f,
   )
 
   pub asked-finished : (steps : ℕ) (substitution : List ℤ) (marks : List ℕ) (back reasons conflict : List ℤ)
