@@ -2,26 +2,20 @@
 use mathlib.Core.Bool.{Bool, true, false}
 use mathlib.Core.Path.{◌≡◌, refl, sym, ap, subst, ◌∙◌}
 use mathlib.Core.List.{List}
-use Prim.Native.Nat.{ℕ, suc, ◌+◌, ◌*◌, ◌≤◌}
+use Prim.Native.Nat.{ℕ, ◌+◌, ◌*◌}
 use native.Mathlib.Numerals.{add-one}
-use native.Mathlib.Omega.{arith}
 use lib.Dec.{leb}
 use lib.IntN.{ℤ, pos}
 use lib.ListN.{length, take, replicate, length-replicate}
 use borrow.Author.Tests.{leb-true, leb-false}
 use Rattle.rows.specs.Row.{zeros}
-use Rattle.rules.specs.Outcomes.{solve, blank}
 use Rattle.rules.specs.declared.Refusal.{Refusal}
-use Rattle.rules.specs.declared.Outcome.TheVariants.{Refused}
-use Rattle.matrix.specs.Poured.{Page, page, poured, written}
 use Rattle.matrix.specs.Reader.{Read, reply, read}
 use Rattle.rules.specs.declared.Reading.{Reading}
 use Rattle.rules.specs.declared.Reading.TheVariants.{System, Unread}
 use Rattle.matrix.proofs.Counts.{Counted, read-counted}
-use Rattle.matrix.proofs.Written.{written-front, written-place, poured-front, length-poured}
 use Rattle.reader.proofs.Answered.{short-text, long-text}
-use Rattle.matrix.specs.Printed.{printed, error}
-use Rattle.matrix.proofs.Length.{printed-short}
+use Rattle.matrix.specs.Printed.{error}
 use Rattle.matrix.specs.Program.{answered, replied, program}
 
 read-fixed : (text : List ℕ) (e i : List ℤ) → 1056 ≡ length e → 2112 ≡ length i → read text e i ≡ read text (zeros 1056) (zeros 2112)

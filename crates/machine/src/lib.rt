@@ -1,5 +1,6 @@
 // One byte: its class, and what it makes of the machine in each phase.
 #![tactic(auto)]
+
 ghost use Rattle.std.specs.Prelude.{◌≡◌, ◌≤◌};
 ghost use Rattle.matrix.specs.Bytes.{class_of};
 ghost use Rattle.matrix.specs.Machine.{on_digit, on_minus, on_blank, on_carriage_return, on_line_feed, on_comment_mark, on_other, step as step_of};

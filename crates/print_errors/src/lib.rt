@@ -1,5 +1,6 @@
 // The line of a refusal, written from a place of a lent page on; the answer is the place behind it.
 #![tactic(auto)]
+
 ghost use Rattle.std.specs.Prelude.{◌≡◌, ◌≤◌, take};
 ghost use Rattle.matrix.specs.Poured.{page, written};
 ghost use Rattle.matrix.specs.Printed.{listed, error as error_of};

@@ -1,5 +1,6 @@
 // The two PolyLib matrices.
 #![tactic(auto)]
+
 ghost use Rattle.std.specs.Prelude.{◌≡◌, map, suc, ◌*◌, ◌≤◌, pos, neg_ℤ, length, set};
 ghost use Rattle.rows.specs.Row.{zeros};
 ghost use Rattle.matrix.specs.Poured.{page, written};

@@ -1,5 +1,6 @@
 // The line after `unsat`: the names in use.
 #![tactic(auto)]
+
 ghost use Rattle.std.specs.Prelude.{◌≡◌, ◌∷◌};
 ghost use Rattle.matrix.specs.Poured.{page, written};
 ghost use Rattle.matrix.specs.Printed.{decimal, used_names, names_of_multipliers, names_of_row, names_of_rows};

@@ -7,7 +7,7 @@ use lib.ListN.{length, get_or, set, take, length-set, length-map}
 use lib.Seq.{get_or-set_other}
 use lib.IntN.{ℤ, pos, ◌-ℤ◌, ◌*ℤ◌}
 use Rattle.whole.proofs.Reify.{reify, ring}
-use Rattle.rows.specs.Row.{at, dot, values, less, quotients}
+use Rattle.rows.specs.Row.{at, dot, values, less}
 use Rattle.rows.specs.Table.{Wide}
 use Rattle.rows.proofs.Algebra.{at_less, into, back, substitution, into_back, back-into}
 use Rattle.rules.specs.Elimination.{Step, Carried, put_in, put_into, way_back_row}

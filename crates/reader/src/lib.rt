@@ -1,5 +1,6 @@
 // The reader of PolyLib texts: every text and every pair of tables gets a reply.
 #![tactic(auto)]
+
 ghost use Rattle.std.specs.Prelude.{◌≡◌, ◌≤◌, length};
 ghost use Rattle.rows.specs.Row.{zeros};
 ghost use Rattle.matrix.specs.Machine.{begin};

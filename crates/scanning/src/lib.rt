@@ -1,5 +1,6 @@
 // The first pass: whether the text is a system, or where it stops being one.
 #![tactic(auto)]
+
 ghost use Rattle.std.specs.Prelude.{◌≡◌, ◌-◌, ◌≤◌, length};
 ghost use Rattle.matrix.specs.Machine.{begin as begin_of};
 ghost use Rattle.matrix.specs.Reader.{is_start, is_return, is_dead, counts_fit, beyond as beyond_of, counted as counted_of, closed as closed_of, at_end, scan as scan_of};

@@ -14,10 +14,10 @@ use Rattle.rules.specs.declared.Refusal.TheVariants.{OutOfRange}
 use Rattle.wellformed.specs.Grammar.{Row, RowLine, row, Body, Matrix, Says}
 use Rattle.matrix.specs.Machine.{begin}
 use Rattle.matrix.specs.Poured.{poured}
-use Rattle.matrix.specs.Reader.{counts_fit, scan, Read, filled, read}
+use Rattle.matrix.specs.Reader.{counts_fit, scan, filled, read}
 use Rattle.rules.specs.declared.Reading.{Reading}
 use Rattle.rules.specs.declared.Reading.TheVariants.{System, Unread}
-use Rattle.wellformed.specs.Promised.{rows_of_kind, entered, packed, answered, TablesHold, RowsPacked}
+use Rattle.wellformed.specs.Promised.{rows_of_kind, entered, packed, answered, RowsPacked}
 use Rattle.wellformed.proofs.Scanning.{both}
 use Rattle.wellformed.proofs.WellFormedRead.{read-says, numbers-say}
 

@@ -1,5 +1,4 @@
 -- What is promised of the reader, over all texts.
-use mathlib.Core.Bool.{false}
 use mathlib.Core.Logic.{◌↔◌, ⊎_elim}
 use mathlib.Core.Path.{◌≡◌, refl, sym, ap, ◌∙◌, subst}
 use mathlib.Core.List.{List, [], ◌∷◌}
@@ -13,7 +12,7 @@ use Rattle.rules.specs.declared.Refusal.TheVariants.{OutOfRange, Malformed}
 use Rattle.rules.specs.declared.Reading.{Reading}
 use Rattle.wellformed.specs.Grammar.{Row, Says}
 use Rattle.matrix.specs.Machine.{begin}
-use Rattle.matrix.specs.Reader.{counts_fit, scan, Read, read}
+use Rattle.matrix.specs.Reader.{scan, Read, read}
 use Rattle.rules.specs.declared.Reading.TheVariants.{System, Unread}
 use Rattle.wellformed.specs.Promised.{answered, RowsPacked, LongestShared, BeyondLimits, by_header, by_matrix, Taken, Due}
 use Rattle.wellformed.proofs.Longest.{longest, read_only}

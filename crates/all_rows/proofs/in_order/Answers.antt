@@ -20,7 +20,7 @@ use Rattle.rules.specs.Elimination.{work, unmet, large, in_order, Ended}
 use Rattle.closing.proofs.ShutTables.{rest-lent, rest_back}
 use Rattle.all_rows.proofs.Order.{ahead-start, ahead-end, there, answered, conflict-small, row_inside, multipliers-inside, hand_at, later_at}
 use Rattle.all_rows.proofs.OrderNext.{multipliers-long, ahead-next, conflict-noted, joined_at, Returned, rows_long, divisors-long}
-use Rattle.rows.specs.Row.{at, all_within}
+use Rattle.rows.specs.Row.{all_within}
 use Rattle.steps.specs.Shown.{carried_of}
 use Rattle.stepping.specs.Worked.{state_of, work_shown}
 use Rattle.stepping.specs.declared.Working.{Working}

@@ -53,7 +53,9 @@ pub slice_bounds-solve_and_print-end-7 : goal.slice_bounds-solve_and_print-end-7
 slice_bounds-solve_and_print-end-7 c = front c.sets-used.result c.sets-used.ensures c.requires.3
 
 pub solve_and_print-requires : goal.solve_and_print-requires
-solve_and_print-requires c = record { le_n = c.requires; substitution_len = (
+solve_and_print-requires c = record {
+  le_n = c.requires;
+  substitution_len = (
     front-rows c.rows-substitution.result c.rows-substitution.ensures c.args.n c.args.n (square (goal.at.solve_and_print-requires c).Start),
     sym (front c.column_marks-marks.result c.column_marks-marks.ensures c.requires.1),
     front-rows c.rows-back.result c.rows-back.ensures c.args.n c.args.n (square (goal.at.solve_and_print-requires c).Start),
@@ -61,4 +63,5 @@ solve_and_print-requires c = record { le_n = c.requires; substitution_len = (
     sym (front c.multipliers-conflict.result c.multipliers-conflict.ensures (omega (arith, c.requires.2))) ∙ add-one c.args.m,
     front-rows c.more_rows-tightened.result c.more_rows-tightened.ensures c.args.k c.args.n (rows-area (goal.at.solve_and_print-requires c).Start),
     sym (front c.sets-used.result c.sets-used.ensures c.requires.3),
-  ) }
+  );
+}

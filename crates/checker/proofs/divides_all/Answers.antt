@@ -1,6 +1,5 @@
 -- `checker::divides_all` meets its contract: as long as each number was divided, what follows decides for the whole row.
 use mathlib.Core.Path.{◌≡◌, sym, ap, ◌∙◌}
-use Prim.Native.Nat.{◌-◌}
 use native.Mathlib.Nat.{le_trans}
 use native.Mathlib.Omega.{arith}
 use mir.Syntax.{w64}

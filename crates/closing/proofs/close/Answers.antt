@@ -146,17 +146,20 @@ correct_later-requires c =
     let multipliers = a.multipliers.now in
     let ds = a.divisors.now in
     let wide : length rows ≡ length ds * w = rw (add-one a.n) s.requires.rows_len.0 in
-    let behind = ap length (rest-lent 1 ds) in record { rows_len = (
+    let behind = ap length (rest-lent 1 ds) in record {
+      rows_len = (
         ap length (rest-lent w rows) ∙ rows_behind w rows ds s.requires.rows_len.2 wide ∙ sym (ap (λ (i : ℕ). i * w) behind),
         ap length (rest-lent m multipliers) ∙ rows_behind m multipliers ds s.requires.rows_len.2 s.requires.rows_len.1 ∙ sym (ap₂ ◌*◌ behind (part_length z)),
         omega arith,
         rw (rest-lent 1 ds) (divisors-behind ds s.requires.n_bound.4),
         divisors-first ds s.requires.rows_len.2 s.requires.n_bound.4,
-      ); rows_value = (
+      );
+      rows_value = (
         ap all_within (rest-lent w rows) ∙ bounded-drop W w rows s.requires.rows_value.0,
         ap all_within (rest-lent m multipliers) ∙ bounded-drop W m multipliers s.requires.rows_value.1,
         ap all_within (scratch-is z) ∙ reason-within s,
-      ) }
+      );
+    }
 
 pub shape_of-rows-then-not-correct_later : goal.shape_of-rows-then-not-correct_later
 shape_of-rows-then-not-correct_later c = search

@@ -1,5 +1,5 @@
 -- `coefficients::opposites` meets its contract: rows of two lengths are no opposites, and of one length the columns ahead decide.
-use Rattle.std.proofs.Common.{◌≡◌, ◌-◌, ◌≤◌, ℤ, pos, ◌+ℤ◌, nat_abs, sym, ap, ◌∙◌, ap₂, arith, to_z-of_z, w64, to_z, of_z}
+use Rattle.std.proofs.Common.{◌≡◌, ◌≤◌, ℤ, pos, ◌+ℤ◌, nat_abs, sym, ap, ◌∙◌, ap₂, arith, to_z-of_z, w64, to_z, of_z}
 use Rattle.whole.specs.Limit.{W}
 use Rattle.whole.proofs.Bounds.{bounds, sfits-by}
 use Rattle.whole.proofs.Taken.{back}

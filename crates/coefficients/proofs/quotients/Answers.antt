@@ -1,5 +1,5 @@
 -- `coefficients::quotients` meets its contract: a sweep that writes the quotient of each number of one row into another.
-use Rattle.std.proofs.Common.{◌≡◌, ◌+◌, ◌-◌, drop, ℤ, ap, ◌∙◌, arith, to_z-of_z, w64, to_z, of_z, rules}
+use Rattle.std.proofs.Common.{◌≡◌, ◌+◌, drop, ℤ, ap, ◌∙◌, arith, to_z-of_z, w64, to_z, of_z, rules}
 use Rattle.whole.specs.Limit.{W}
 use Rattle.whole.specs.Quotient.{quotient}
 use Rattle.whole.proofs.Bounds.{bits-le}

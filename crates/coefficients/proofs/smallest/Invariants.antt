@@ -1,6 +1,6 @@
 -- `coefficients::smallest` meets its contract: `best` is the column found among those from i on, and `least` the size of the number there less
 -- one, or about the limit where none is found. The column before i takes its place where the definition says so.
-use Rattle.std.proofs.Common.{◌≡◌, ℕ, ◌+◌, ◌-◌, ◌≤◌, ◌⊎◌, List, length, drop, ℤ, nat_abs}
+use Rattle.std.proofs.Common.{◌≡◌, ℕ, ◌+◌, ◌≤◌, ◌⊎◌, List, length, drop, ℤ, nat_abs}
 use Rattle.whole.specs.Limit.{W}
 use Rattle.rows.specs.Row.{at, smallest}
 use Rattle.coefficients.proofs.smallest.Given as goal

@@ -1,5 +1,5 @@
 -- `copying::copy` meets its contract: a sweep that writes each number of one table into another.
-use Prim.Native.Nat.{◌+◌, ◌-◌}
+use Prim.Native.Nat.{◌+◌}
 use native.Mathlib.Omega.{arith}
 use lib.IntN.{pos}
 use lib.ListN.{drop, drop_of_length-le}

@@ -1,5 +1,4 @@
 -- `copying::fill` meets its contract: one number into each place.
-use Prim.Native.Nat.{◌-◌}
 use native.Mathlib.Omega.{arith}
 use mir.Syntax.{w64}
 use mir.Val.{to_z, of_z}

@@ -1,5 +1,4 @@
 -- `copying::fill_marks` meets its contract: one number into each place.
-use Prim.Native.Nat.{◌-◌}
 use native.Mathlib.Omega.{arith}
 use Rattle.copying.proofs.Filled.{filled-start, filled-step, filled-end}
 use Rattle.copying.proofs.fill_marks.Goals as goal

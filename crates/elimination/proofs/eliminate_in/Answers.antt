@@ -128,12 +128,12 @@ returns-in-Finished c =
     let p = (start i).requires.substitution_len in
     let steps = c.in-Finished.steps in
     let told =
-        asked-finished (start i).args.n (start i).args.m (start i).args.equations.now steps i.in_order-ran.new.substitution i.in_order-ran.new.marks i.in_order-ran.new.back i.in_order-ran.new.reasons c.fill.new.table
-        (substitution-long i ∙ p.0)
-        (back_long i ∙ p.2)
-        (reasons-long i ∙ p.3)
-        (c.fill.ensures ∙ ap (λ (k : ℕ). replicate k (pos 0)) (conflict-long i ∙ p.4))
-        (ends i (Finished steps) c.in-Finished.is) in
+    asked-finished (start i).args.n (start i).args.m (start i).args.equations.now steps i.in_order-ran.new.substitution i.in_order-ran.new.marks i.in_order-ran.new.back i.in_order-ran.new.reasons c.fill.new.table
+    (substitution-long i ∙ p.0)
+    (back_long i ∙ p.2)
+    (reasons-long i ∙ p.3)
+    (c.fill.ensures ∙ ap (λ (k : ℕ). replicate k (pos 0)) (conflict-long i ∙ p.4))
+    (ends i (Finished steps) c.in-Finished.is) in
     record { outcome = told.0; substitution = told.1; marks = told.2; back = told.3; reasons = told.4; state = told.5 }
 
 pub shape_of-rows-in-Conflict : goal.shape_of-rows-in-Conflict
@@ -168,17 +168,17 @@ returns-in-Conflict c =
     let steps = c.in-Conflict.steps in
     let e = c.in-Conflict.is in
     let told =
-        asked-conflict (start i).args.n (start i).args.m (start i).args.equations.now c.clear_run.new.substitution c.clear_run.new.marks c.clear_run.new.back c.clear_run.new.reasons
-        (c.clear_run.ensures.substitution ∙ ap (λ (k : ℕ). replicate k (pos 0)) (substitution-long i ∙ p.0))
-        (c.clear_run.ensures.marks ∙ ap (λ (k : ℕ). replicate k 0) (marks-long i ∙ p.1))
-        (c.clear_run.ensures.back ∙ ap (λ (k : ℕ). replicate k (pos 0)) (back_long i ∙ p.2))
-        (c.clear_run.ensures.reasons ∙ ap (λ (k : ℕ). replicate k (pos 0)) (reasons-long i ∙ p.3))
-        row
-        steps
-        i.in_order-ran.new.conflict
-        (conflict-long i ∙ p.4)
-        (subst (λ (r : Ran). EndsWithD r (start i).args.m i.in_order-ran.new.conflict) e i.in_order-ran.ensures.d)
-        (ends i (Conflict row steps) e) in
+    asked-conflict (start i).args.n (start i).args.m (start i).args.equations.now c.clear_run.new.substitution c.clear_run.new.marks c.clear_run.new.back c.clear_run.new.reasons
+    (c.clear_run.ensures.substitution ∙ ap (λ (k : ℕ). replicate k (pos 0)) (substitution-long i ∙ p.0))
+    (c.clear_run.ensures.marks ∙ ap (λ (k : ℕ). replicate k 0) (marks-long i ∙ p.1))
+    (c.clear_run.ensures.back ∙ ap (λ (k : ℕ). replicate k (pos 0)) (back_long i ∙ p.2))
+    (c.clear_run.ensures.reasons ∙ ap (λ (k : ℕ). replicate k (pos 0)) (reasons-long i ∙ p.3))
+    row
+    steps
+    i.in_order-ran.new.conflict
+    (conflict-long i ∙ p.4)
+    (subst (λ (r : Ran). EndsWithD r (start i).args.m i.in_order-ran.new.conflict) e i.in_order-ran.ensures.d)
+    (ends i (Conflict row steps) e) in
     record { outcome = told.0; substitution = told.1; marks = told.2; back = told.3; reasons = told.4; state = told.5 }
 
 pub shape_of-rows-in-Grown : goal.shape_of-rows-in-Grown
@@ -212,14 +212,14 @@ returns-in-Grown c =
     let row = c.in-Grown.row in
     let steps = c.in-Grown.steps in
     let told =
-        asked-grown (start i).args.n (start i).args.m (start i).args.equations.now c.clear_run-in-Grown.new.substitution c.clear_run-in-Grown.new.marks c.clear_run-in-Grown.new.back c.clear_run-in-Grown.new.reasons
-        (c.clear_run-in-Grown.ensures.substitution ∙ ap (λ (k : ℕ). replicate k (pos 0)) (substitution-long i ∙ p.0))
-        (c.clear_run-in-Grown.ensures.marks ∙ ap (λ (k : ℕ). replicate k 0) (marks-long i ∙ p.1))
-        (c.clear_run-in-Grown.ensures.back ∙ ap (λ (k : ℕ). replicate k (pos 0)) (back_long i ∙ p.2))
-        (c.clear_run-in-Grown.ensures.reasons ∙ ap (λ (k : ℕ). replicate k (pos 0)) (reasons-long i ∙ p.3))
-        row
-        steps
-        c.fill-in-Grown.new.table
-        (c.fill-in-Grown.ensures ∙ ap (λ (k : ℕ). replicate k (pos 0)) (conflict-long i ∙ p.4))
-        (ends i (Grown row steps) c.in-Grown.is) in
+    asked-grown (start i).args.n (start i).args.m (start i).args.equations.now c.clear_run-in-Grown.new.substitution c.clear_run-in-Grown.new.marks c.clear_run-in-Grown.new.back c.clear_run-in-Grown.new.reasons
+    (c.clear_run-in-Grown.ensures.substitution ∙ ap (λ (k : ℕ). replicate k (pos 0)) (substitution-long i ∙ p.0))
+    (c.clear_run-in-Grown.ensures.marks ∙ ap (λ (k : ℕ). replicate k 0) (marks-long i ∙ p.1))
+    (c.clear_run-in-Grown.ensures.back ∙ ap (λ (k : ℕ). replicate k (pos 0)) (back_long i ∙ p.2))
+    (c.clear_run-in-Grown.ensures.reasons ∙ ap (λ (k : ℕ). replicate k (pos 0)) (reasons-long i ∙ p.3))
+    row
+    steps
+    c.fill-in-Grown.new.table
+    (c.fill-in-Grown.ensures ∙ ap (λ (k : ℕ). replicate k (pos 0)) (conflict-long i ∙ p.4))
+    (ends i (Grown row steps) c.in-Grown.is) in
     record { outcome = told.0; substitution = told.1; marks = told.2; back = told.3; reasons = told.4; state = told.5 }

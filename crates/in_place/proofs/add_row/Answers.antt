@@ -1,7 +1,7 @@
 -- `in_place::add_row` meets its contract: a sweep over the columns of row k. What is read of row i is as it was at first, as row i lies
 -- before row k or behind it.
 use mathlib.Core.Path.{◌≡◌, ap₂, ◌∙◌}
-use Prim.Native.Nat.{◌+◌, ◌-◌, ◌*◌, ◌^◌}
+use Prim.Native.Nat.{◌+◌, ◌*◌, ◌^◌}
 use native.Mathlib.Omega.{arith}
 use lib.IntN.{ℤ, ◌+ℤ◌, ◌*ℤ◌}
 use mir.Syntax.{w64}

@@ -1,7 +1,6 @@
 -- `in_place::gather_in` meets its contract: row k so far, gathered with the rows ahead, is the answer, and all other rows are as at first.
 use mathlib.Core.Path.{◌≡◌, sym, ap, ◌∙◌}
-use mathlib.Core.Logic.{⊎_elim}
-use Prim.Native.Nat.{ℕ, ◌-◌, ◌≤◌}
+use Prim.Native.Nat.{ℕ, ◌≤◌}
 use native.Mathlib.Omega.{arith}
 use lib.IntN.{pos, nat_abs}
 use lib.ListN.{length}
@@ -56,12 +55,14 @@ loop-r-preserved c =
     let r = l.loop-r.r in
     let g = l.loop-r.invariant.1 in
     let b = m.loop-r-test.true in
-    elim c.if-often-ne0.branch [ then-often-ne0 x ↦
-    let done = rw (back (at cs r) c.often-1.given) at x.add_row.ensures in
-    (omega arith, rw (x.table-is, done) (gathering-step a.w a.k cs t s.requires.2 s.requires.0 r g b (small l) s.requires.5 (differs l x.if-often-ne0.true)))
-    | else-often-ne0 x ↦
-    let zero : at cs r ≡ pos 0 = sym (back (at cs r) c.often-1.given) ∙ ap (to_z w64) x.if-often-ne0.false in
-    (omega arith, rw x.table-is (gathering-past a.w a.k cs t s.requires.2 s.requires.0 r g b zero)) ]
+    elim c.if-often-ne0.branch [
+      | then-often-ne0 x ↦
+          let done = rw (back (at cs r) c.often-1.given) at x.add_row.ensures in
+          (omega arith, rw (x.table-is, done) (gathering-step a.w a.k cs t s.requires.2 s.requires.0 r g b (small l) s.requires.5 (differs l x.if-often-ne0.true)))
+      | else-often-ne0 x ↦
+          let zero : at cs r ≡ pos 0 = sym (back (at cs r) c.often-1.given) ∙ ap (to_z w64) x.if-often-ne0.false in
+          (omega arith, rw x.table-is (gathering-past a.w a.k cs t s.requires.2 s.requires.0 r g b zero))
+    ]
 
 pub shape_of-table : goal.shape_of-table
 shape_of-table c =

@@ -1,6 +1,6 @@
 -- `inequalities::work_rows` meets its contract: the rows passed are worked and within the limit, and one that is not is the answer.
 use mathlib.Core.Path.{◌≡◌, refl, sym, ◌∙◌}
-use Prim.Native.Nat.{ℕ, suc, ◌+◌, ◌*◌, ◌-◌, ◌≤◌, ◌<◌}
+use Prim.Native.Nat.{ℕ, suc, ◌+◌, ◌*◌, ◌≤◌, ◌<◌}
 use native.Mathlib.Nat.{add-sub_cancel_left}
 use native.Mathlib.Numerals.{add-one}
 use native.Mathlib.Omega.{arith}
@@ -65,13 +65,16 @@ work_row-found-requires c =
     let n = s.args.n in
     let i = l.loop-i.i in
     let t = s.args.inequalities.now in
-    rw (row-lent n i l.loop-i.tightened, row-lent n i t) record { row_len = (
+    rw (row-lent n i l.loop-i.tightened, row-lent n i t) record {
+      row_len = (
         length-row_at (suc n) (count s) i l.loop-i.tightened (there o) l.loop-i.invariant.1.long,
         length-row_at (suc n) (count s) i t (there o) s.requires.tightened_len.1,
         s.requires.tightened_len.2,
         s.requires.tightened_len.3,
         s.requires.tightened_len.4,
-      ); n_bound = (s.requires.n_bound.0, s.requires.n_bound.1, within-row (suc n) i t s.requires.n_bound.3, s.requires.n_bound.4) }
+      );
+      n_bound = (s.requires.n_bound.0, s.requires.n_bound.1, within-row (suc n) i t s.requires.n_bound.3, s.requires.n_bound.4);
+    }
 
 -- what `work_row` answers of the row, and that what comes back has the length of what was lent
 told : (c : After-work_row-found) → let l = c in let s = (goal.at.After-work_row-found l).Start in

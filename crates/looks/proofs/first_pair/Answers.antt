@@ -1,6 +1,6 @@
 -- `looks::first_pair` meets its contract: none of the rows passed is the first of a pair.
 use mathlib.Core.Path.{◌≡◌, refl, sym, ap, ◌∙◌}
-use Prim.Native.Nat.{ℕ, suc, ◌+◌, ◌*◌, ◌-◌, ◌≤◌}
+use Prim.Native.Nat.{ℕ, suc, ◌+◌, ◌*◌, ◌≤◌}
 use native.Mathlib.Omega.{arith}
 use lib.ListN.{length}
 use Rattle.rows.proofs.TableLaws.{length-row_at}
@@ -54,13 +54,16 @@ first_against-after-requires c =
     let i = l.loop-i.i in
     let count = s.args.count in
     let t = s.args.table.now in
-    rw (row-lent n i t) record { row_len = (
+    rw (row-lent n i t) record {
+      row_len = (
         length-row_at (suc n) count i t o.loop-i-test.true s.requires.0,
         rest-long n count i t o.loop-i-test.true s.requires.0,
         s.requires.1,
         omega arith,
         within-row (suc n) i t s.requires.3,
-      ); table_value = rest-within n count i t s.requires.3 }
+      );
+      table_value = rest-within n count i t s.requires.3;
+    }
 
 -- what the call finds behind row i
 told : (c : After-first_against-after) → let l = c in let a = l.args in

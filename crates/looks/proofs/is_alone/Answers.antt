@@ -1,6 +1,5 @@
 -- `looks::is_alone` meets its contract: as long as no coefficient is found, the columns ahead decide, and after them the constant.
 use mathlib.Core.Path.{◌≡◌, sym, ap, ◌∙◌}
-use Prim.Native.Nat.{◌-◌}
 use native.Mathlib.Omega.{arith}
 use lib.ListN.{length, take}
 use lib.Seq.{length-take-le, get_or-take}

@@ -1,5 +1,4 @@
 -- `print_matrices::open_columns` meets its contract: the count, with what is open from c on, comes to all that is open.
-use Prim.Native.Nat.{◌-◌}
 use native.Mathlib.Omega.{arith}
 use Rattle.print_matrices.proofs.Columns.{columns-shut, columns-open, columns-none}
 use Rattle.print_matrices.proofs.open_columns.Goals as goal

@@ -1,6 +1,5 @@
 -- `print_matrices::put_minus_x` meets its contract: the numbers from column c on, written here, come to all of them.
 use mathlib.Core.Path.{refl}
-use Prim.Native.Nat.{◌-◌}
 use lib.IntN.{pos, neg_ℤ}
 use Rattle.matrix.specs.Printed.{turned}
 use Rattle.matrix.proofs.Joined.{ahead, done}

@@ -1,6 +1,5 @@
 -- `print_matrices::put_open` meets its contract: the open columns from c on, written here, come to all of them.
 use mathlib.Core.Path.{refl, ◌∙◌}
-use Prim.Native.Nat.{◌-◌}
 use Rattle.rows.specs.Row.{at}
 use Rattle.whole.proofs.Taken.{back}
 use Rattle.matrix.proofs.Joined.{ahead}

@@ -1,6 +1,6 @@
 -- `print_matrices::solved_matrix` meets its contract: behind the header, the lines from row i on, written here, come to all of them.
 use mathlib.Core.Path.{refl}
-use Prim.Native.Nat.{suc, ◌+◌, ◌*◌, ◌-◌, ◌≤◌}
+use Prim.Native.Nat.{suc, ◌+◌, ◌*◌, ◌≤◌}
 use lib.ListN.{length}
 use Rattle.rows.specs.Table.{row_at}
 use Rattle.matrix.specs.Printed.{open_columns, header_line, solved_line, solved_matrix}

@@ -1,6 +1,6 @@
 -- `print_matrices::tightened_matrix` meets its contract: behind the header, the lines from row i on, written here, come to all of them.
 use mathlib.Core.Path.{refl}
-use Prim.Native.Nat.{suc, ◌+◌, ◌*◌, ◌-◌, ◌≤◌}
+use Prim.Native.Nat.{suc, ◌+◌, ◌*◌, ◌≤◌}
 use lib.ListN.{length}
 use Rattle.matrix.specs.Printed.{open_columns, header_line, tightened_line, tightened_matrix}
 use Rattle.matrix.proofs.Joined.{join, ahead, done}

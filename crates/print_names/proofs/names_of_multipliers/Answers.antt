@@ -1,6 +1,5 @@
 -- `print_names::names_of_multipliers` meets its contract: the names from equation i + 1 on, written here, come to all of them.
 use mathlib.Core.Path.{refl}
-use Prim.Native.Nat.{◌-◌}
 use Rattle.rows.specs.Row.{at}
 use Rattle.matrix.specs.Printed.{names_of_multipliers}
 use Rattle.matrix.proofs.Joined.{join, first, ahead, done}

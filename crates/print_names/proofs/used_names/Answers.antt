@@ -1,6 +1,5 @@
 -- `print_names::used_names` meets its contract: the names from equation i + 1 on, written here, come to all of them.
 use mathlib.Core.Path.{refl}
-use Prim.Native.Nat.{◌-◌}
 use native.Mathlib.Nat.{sub-zero}
 use Rattle.matrix.proofs.Joined.{join, single, ahead, done}
 use Rattle.print_names.proofs.NamesAhead.{used-none, used-past, used-here}

@@ -2,7 +2,6 @@
 use Rattle.matrix.proofs.Joined.{join, single}
 use Rattle.print_numbers.proofs.Digits.{digits-none, digits_last, digits_more}
 use Rattle.matrix.specs.Poured.{written}
-use Prim.Native.Nat.{ℕ, ◌<◌}
 use Rattle.print_numbers.proofs.+put_digits.Goals as goal
 
 pub returns-then-places-eq0 : goal.returns-then-places-eq0

@@ -1,7 +1,7 @@
 -- `print_numbers::put_bytes` meets its contract: the bytes from i on, written here, come to all of them written at the start.
 use mathlib.Core.Path.{refl}
 use mathlib.Core.List.{[], ◌∷◌}
-use Prim.Native.Nat.{◌+◌, ◌-◌}
+use Prim.Native.Nat.{◌+◌}
 use native.Mathlib.Omega.{arith}
 use lib.ListN.{get_or, drop, drop_of_length-le}
 use Rattle.rows.proofs.Lists.{tail_at}

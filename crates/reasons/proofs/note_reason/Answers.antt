@@ -55,6 +55,9 @@ returns c =
     let m = length reason in
     let n = length a.marks.now in
     let last : to_z w64 (of_z w64 c.signed.result) ≡ pos a.d = back c.signed.result c.signed.type_inv ∙ c.signed.ensures in
-    let long : length (reason ++ pos a.d ∷ []) ≡ suc m = simp length-append (omega arith) in record { marks = refl; reasons = rw (add-one m, add-sub_cancel_left (a.k * suc m) m, c.copy.ensures, last)
+    let long : length (reason ++ pos a.d ∷ []) ≡ suc m = simp length-append (omega arith) in record {
+      marks = refl;
+      reasons = rw (add-one m, add-sub_cancel_left (a.k * suc m) m, c.copy.ensures, last)
           (ap (rows_of (suc m) n) (set-row-parts m a.k reason a.reasons.now (pos a.d) refl (within-table s))
-          ∙ rows_of-set_row (suc m) n a.k a.reasons.now (reason ++ pos a.d ∷ []) s.requires.0 s.requires.1 long) }
+          ∙ rows_of-set_row (suc m) n a.k a.reasons.now (reason ++ pos a.d ∷ []) s.requires.0 s.requires.1 long);
+    }

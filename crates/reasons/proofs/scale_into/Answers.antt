@@ -1,6 +1,6 @@
 -- `reasons::scale_into` meets its contract: a sweep that writes c times each number of one row into another.
 use mathlib.Core.Path.{◌≡◌, ap, ◌∙◌}
-use Prim.Native.Nat.{◌+◌, ◌-◌}
+use Prim.Native.Nat.{◌+◌}
 use native.Mathlib.Omega.{arith}
 use borrow.Author.Rules.{rules}
 use lib.IntN.{ℤ, ◌*ℤ◌}

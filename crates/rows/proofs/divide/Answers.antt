@@ -1,6 +1,6 @@
 -- `rows::divide` meets its contract: a sweep that puts each number's quotient in its place.
 use mathlib.Core.Path.{◌≡◌, ap, ◌∙◌}
-use Prim.Native.Nat.{◌+◌, ◌-◌, ◌≤◌}
+use Prim.Native.Nat.{◌+◌, ◌≤◌}
 use native.Mathlib.Omega.{arith}
 use borrow.Author.Rules.{rules}
 use lib.IntN.{ℤ, pos, nat_abs}

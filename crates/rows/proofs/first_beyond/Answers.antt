@@ -1,6 +1,5 @@
 -- `rows::first_beyond` meets its contract: the columns passed and the first one ahead make the row's first.
 use mathlib.Core.Path.{◌≡◌, sym, ap, ◌∙◌}
-use Prim.Native.Nat.{◌-◌}
 use native.Mathlib.Omega.{arith}
 use Rattle.whole.specs.Limit.{within}
 use Rattle.whole.proofs.Taken.{back}

@@ -1,6 +1,6 @@
 -- `rows::gcd_of` meets its contract: the divisor found so far and that of the columns ahead have the row's as theirs.
 use mathlib.Core.Path.{sym, ap, ◌∙◌}
-use Prim.Native.Nat.{◌+◌, ◌-◌}
+use Prim.Native.Nat.{◌+◌}
 use native.Mathlib.Omega.{arith}
 use borrow.Author.Rules.{rules}
 use lib.IntN.{nat_abs}

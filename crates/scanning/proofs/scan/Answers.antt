@@ -1,6 +1,6 @@
 -- `scanning::scan` meets its contract. What is left to scan from the machine in hand is what was to be scanned at the start.
 use mathlib.Core.Path.{◌≡◌, refl, sym, ap, ◌∙◌}
-use Prim.Native.Nat.{◌+◌, ◌-◌}
+use Prim.Native.Nat.{◌+◌}
 use native.Mathlib.Omega.{arith}
 use lib.ListN.{drop}
 use Rattle.matrix.specs.Machine.{begin}

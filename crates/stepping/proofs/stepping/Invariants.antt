@@ -4,10 +4,9 @@
 -- ahead at first. A turn makes one step: it is refused, it closes a column, or the next one is ahead.
 -- Before the loop of `stepping::stepping`: the smallest coefficient of the row gives the bound, and with it the loop may begin.
 use mathlib.Core.Path.{◌≡◌}
-use Prim.Native.Nat.{◌-◌, suc, ◌+◌}
+use Prim.Native.Nat.{suc, ◌+◌}
 use Rattle.stepping.proofs.Going.{comes_to, Long, Going}
 use lib.ListN.{take}
-use Rattle.whole.proofs.Taken.{back}
 use Rattle.rows.specs.Row.{smallest}
 use Rattle.stepping.specs.Worked.{bound_of}
 use Rattle.stepping.proofs.stepping.Given as goal

@@ -1,6 +1,5 @@
 -- `steps::lowest_terms` meets its contract: a divisor 1 shares nothing, and to divide by 1 is to leave the multipliers as they are.
 use mathlib.Core.Path.{◌≡◌, sym, ap, ◌∙◌}
-use mathlib.Core.Logic.{⊎_elim}
 use Prim.Native.Nat.{ℕ, ◌≤◌, ◌<◌}
 use native.Mathlib.Nat.{div-one}
 use native.Mathlib.Omega.{arith}
@@ -61,7 +60,7 @@ made : (c : Joined-g-ne1) → let s = entry c.before in
 made c =
     let l = (entry c.before).args.multipliers.now in
     elim c.if-g-ne1.branch [
-      then-g-ne1 x ↦ x.multipliers-is ∙ x.divide.ensures ∙ ap (λ (z : ℤ). divided z l) (back x.signed.result x.signed.type_inv ∙ x.signed.ensures)
+      | then-g-ne1 x ↦ x.multipliers-is ∙ x.divide.ensures ∙ ap (λ (z : ℤ). divided z l) (back x.signed.result x.signed.type_inv ∙ x.signed.ensures)
       | else-g-ne1 x ↦ x.multipliers-is ∙ sym (divided-one l) ∙ ap (λ (g : ℕ). divided (pos g) l) (sym x.if-g-ne1.false)
     ]
 

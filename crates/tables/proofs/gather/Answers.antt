@@ -1,8 +1,7 @@
 -- `tables::gather` meets its contract: the row so far, gathered with the rows ahead, is the answer. Every row adds at most W times W.
 use mathlib.Core.Path.{◌≡◌, refl, sym, ap, ◌∙◌}
 use mathlib.Core.Bool.{true}
-use mathlib.Core.Logic.{⊎_elim}
-use Prim.Native.Nat.{◌+◌, ◌-◌, ◌*◌, ◌≤◌}
+use Prim.Native.Nat.{◌+◌, ◌*◌, ◌≤◌}
 use native.Mathlib.Nat.{add-sub_cancel_left}
 use native.Mathlib.Omega.{arith}
 use lib.IntN.{ℤ, pos, neg_ℤ, nat_abs}
@@ -85,23 +84,25 @@ loop-r-preserved c =
     let t = s.args.table.now in
     let a = at cs r in
     let more = gathered-more row cs w r t (omega arith) in
-    elim c.if-c-ne0.branch [ then-c-ne0 x ↦
-    let done = rw (add-sub_cancel_left (r * w) w, opposite-bits a (small l)) at x.less_multiple.ensures.row in
-    rw (x.row-is, done) (
-      omega arith,
-      length-less row (neg_ℤ a) (row_at w r t) ∙ l.loop-r.invariant.1,
-      sum_more r row a (row_at w r t) (small l) (row_within l) l.loop-r.invariant.2,
-      sym more ∙ l.loop-r.invariant.3,
-    )
-    | else-c-ne0 x ↦
-    let zero : a ≡ pos 0 = sym (back a c.c-1.given) ∙ ap (to_z w64) x.if-c-ne0.false in
-    let same : less row (neg_ℤ a) (row_at w r t) ≡ row = ap (λ (z : ℤ). less row (neg_ℤ z) (row_at w r t)) zero ∙ less_zero row (row_at w r t) in
-    rw x.row-is (
-      omega arith,
-      l.loop-r.invariant.1,
-      sum_past r row l.loop-r.invariant.2,
-      rw same at (sym more ∙ l.loop-r.invariant.3),
-    ) ]
+    elim c.if-c-ne0.branch [
+      | then-c-ne0 x ↦
+          let done = rw (add-sub_cancel_left (r * w) w, opposite-bits a (small l)) at x.less_multiple.ensures.row in
+          rw (x.row-is, done) (
+            omega arith,
+            length-less row (neg_ℤ a) (row_at w r t) ∙ l.loop-r.invariant.1,
+            sum_more r row a (row_at w r t) (small l) (row_within l) l.loop-r.invariant.2,
+            sym more ∙ l.loop-r.invariant.3,
+          )
+      | else-c-ne0 x ↦
+          let zero : a ≡ pos 0 = sym (back a c.c-1.given) ∙ ap (to_z w64) x.if-c-ne0.false in
+          let same : less row (neg_ℤ a) (row_at w r t) ≡ row = ap (λ (z : ℤ). less row (neg_ℤ z) (row_at w r t)) zero ∙ less_zero row (row_at w r t) in
+          rw x.row-is (
+            omega arith,
+            l.loop-r.invariant.1,
+            sum_past r row l.loop-r.invariant.2,
+            rw same at (sym more ∙ l.loop-r.invariant.3),
+          )
+    ]
 
 pub returns : goal.returns
 returns c =

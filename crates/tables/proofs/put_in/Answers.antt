@@ -2,9 +2,8 @@
 -- limit as the table is.
 use mathlib.Core.Path.{◌≡◌, sym, ap, ◌∙◌}
 use mathlib.Core.Bool.{true, and_assoc}
-use mathlib.Core.Logic.{⊎_elim}
 use mathlib.Core.List.{List, ◌++◌}
-use Prim.Native.Nat.{◌+◌, ◌-◌, ◌*◌, ◌^◌, ◌≤◌}
+use Prim.Native.Nat.{◌+◌, ◌*◌, ◌^◌, ◌≤◌}
 use native.Mathlib.Nat.{add-sub_cancel_left}
 use native.Mathlib.Omega.{arith}
 use lib.IntN.{ℤ, pos}
@@ -101,22 +100,24 @@ loop-r-preserved c =
     let h = b.loop-r-test.true in
     let sweep = l.loop-r.invariant.1 in
     let more = ahead_more f w count r t h in
-    elim c.if-b-ne0.branch [ then-b-ne0 x ↦
-    let size = add-sub_cancel_left (r * w) w in
-    let done = rw (size, read b, rowed-row f w count r sweep) at x.less_multiple-good.ensures in
-    let long = ap length done.row ∙ length-less row (at row s.args.k) q ∙ length-row_at w count r t h s.requires.0 in (
-      omega arith,
-      rw (x.table-is, size) (rowed-step f w count r h sweep _ s.requires.0 done.row long),
-      rw (x.fits-is, done.fits, and_assoc l.loop-r.fits (all_within (f row)) (all_within rest), ← bounded-append W (f row) rest, ← more) l.loop-r.invariant.2,
-    )
-    | else-b-ne0 x ↦
-    let same : f row ≡ row = without-none s.args.k q row (sym (read b) ∙ ap (to_z w64) x.if-b-ne0.false) in
-    let answer : all_within (ahead_of f w count r t) ≡ all_within rest =
-    ap all_within (more ∙ ap (λ (m : List ℤ). m ++ rest) same) ∙ within-past row rest (row_within l) in (
-      omega arith,
-      rw x.table-is (rowed-past f w count r h sweep same),
-      rw (x.fits-is, ← answer) l.loop-r.invariant.2,
-    ) ]
+    elim c.if-b-ne0.branch [
+      | then-b-ne0 x ↦
+          let size = add-sub_cancel_left (r * w) w in
+          let done = rw (size, read b, rowed-row f w count r sweep) at x.less_multiple-good.ensures in
+          let long = ap length done.row ∙ length-less row (at row s.args.k) q ∙ length-row_at w count r t h s.requires.0 in (
+            omega arith,
+            rw (x.table-is, size) (rowed-step f w count r h sweep _ s.requires.0 done.row long),
+            rw (x.fits-is, done.fits, and_assoc l.loop-r.fits (all_within (f row)) (all_within rest), ← bounded-append W (f row) rest, ← more) l.loop-r.invariant.2,
+          )
+      | else-b-ne0 x ↦
+          let same : f row ≡ row = without-none s.args.k q row (sym (read b) ∙ ap (to_z w64) x.if-b-ne0.false) in
+          let answer : all_within (ahead_of f w count r t) ≡ all_within rest =
+          ap all_within (more ∙ ap (λ (m : List ℤ). m ++ rest) same) ∙ within-past row rest (row_within l) in (
+            omega arith,
+            rw x.table-is (rowed-past f w count r h sweep same),
+            rw (x.fits-is, ← answer) l.loop-r.invariant.2,
+          )
+    ]
 
 pub returns : goal.returns
 returns c =

@@ -1,6 +1,4 @@
 -- `tightening::only_open` meets its contract: a sweep over the marks. A number at an open column is as it has to be already.
-use mathlib.Core.Logic.{⊎_elim}
-use Prim.Native.Nat.{◌-◌}
 use native.Mathlib.Omega.{arith}
 use Rattle.rows.proofs.Sweep.{swept-start}
 use Rattle.tightening.proofs.OpenColumns.{open-shut, open-left, open-end}
@@ -19,7 +17,7 @@ loop-k-preserved c =
     let marks = l.args.marks.now in (
       omega arith,
       elim c.if-marks-k-eq0.branch [
-        then-marks-k-eq0 x ↦ rw x.row-is (open-shut marks (omega arith) (omega arith) l.loop-k.invariant.1 x.if-marks-k-eq0.true)
+        | then-marks-k-eq0 x ↦ rw x.row-is (open-shut marks (omega arith) (omega arith) l.loop-k.invariant.1 x.if-marks-k-eq0.true)
         | else-marks-k-eq0 x ↦ rw x.row-is (open-left marks (omega arith) (omega arith) l.loop-k.invariant.1 x.if-marks-k-eq0.false)
       ],
     )

@@ -1,7 +1,7 @@
 -- `used::carrying` meets its contract: what is noted and what is left are all the columns that carry.
 use mathlib.Core.Path.{◌≡◌}
 use mathlib.Core.List.{◌++◌}
-use Prim.Native.Nat.{◌+◌, ◌-◌, ◌≤◌}
+use Prim.Native.Nat.{◌-◌, ◌≤◌}
 use lib.ListN.{length, take, drop}
 use Rattle.used.specs.Carrying.{carrying as carrying_of}
 use Rattle.used.proofs.carrying.Given as goal

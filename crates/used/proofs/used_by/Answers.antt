@@ -6,7 +6,7 @@ use native.Mathlib.Nat.{sub-zero, sub_self}
 use native.Mathlib.Omega.{arith}
 use lib.ListN.{length, get_or, take}
 use lib.Seq.{length-take-le}
-use Rattle.rules.specs.Inequalities.{rests_on, used_by}
+use Rattle.rules.specs.Inequalities.{used_by}
 use Rattle.used.proofs.Carried.{carrying-below, rests-among}
 use Rattle.used.proofs.Reasons.{set_from, set-none, set_next, set-fits}
 use Rattle.used.proofs.used_by.Invariants.{answer}

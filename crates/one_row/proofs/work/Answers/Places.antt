@@ -3,7 +3,6 @@
 use mathlib.Core.Path.{◌≡◌, sym, ap, ap₂, ◌∙◌}
 use mathlib.Core.Bool.{true}
 use mathlib.Core.List.{List}
-use mathlib.Core.Logic.{⊎_elim}
 use Prim.Native.Nat.{ℕ, suc, ◌+◌, ◌*◌, ◌/◌, ◌≤◌, ◌<◌}
 use native.Mathlib.Numerals.{add-one}
 use native.Mathlib.Omega.{arith}
@@ -81,17 +80,17 @@ joined j =
     let some = s.requires.in_bounds.0 in
     let q = (goal.at.Joined-g-gt1 j).After-gcd-g in
     elim x.branch [
-      then-g-gt1+in-Fits w ↦
-      let row-long : length w.reduce-kept.new.row ≡ suc n = w.reduce-kept.auto.row ∙ row-length s ∙ add-one n in
-      let multipliers-long : length w.reduce-kept.new.multipliers ≡ a.m = w.reduce-kept.auto.multipliers ∙ length-take-le a.m multipliers (multipliers-inside s) in
-      let alive : 0 < gcd_of (take (suc n) rows) = omega (arith, gcd-is q, w.if-g-gt1.true) in
-      let told = rw (w.in-Fits.is, gcd-is q, add-one n) at w.reduce-kept.ensures in
-      rw (w.rows-is, w.multipliers-is, w.divisors-is, add-one n)
-      (starts-reduced n a.m rows multipliers divisors s.requires.working3.0 some w.reduce-kept.new.row w.reduce-kept.new.multipliers w.in-Fits.d
-      row-long multipliers-long alive told)
+      | then-g-gt1+in-Fits w ↦
+          let row-long : length w.reduce-kept.new.row ≡ suc n = w.reduce-kept.auto.row ∙ row-length s ∙ add-one n in
+          let multipliers-long : length w.reduce-kept.new.multipliers ≡ a.m = w.reduce-kept.auto.multipliers ∙ length-take-le a.m multipliers (multipliers-inside s) in
+          let alive : 0 < gcd_of (take (suc n) rows) = omega (arith, gcd-is q, w.if-g-gt1.true) in
+          let told = rw (w.in-Fits.is, gcd-is q, add-one n) at w.reduce-kept.ensures in
+          rw (w.rows-is, w.multipliers-is, w.divisors-is, add-one n)
+          (starts-reduced n a.m rows multipliers divisors s.requires.working3.0 some w.reduce-kept.new.row w.reduce-kept.new.multipliers w.in-Fits.d
+          row-long multipliers-long alive told)
       | else-g-gt1 w ↦
-      rw (w.rows-is, w.multipliers-is, w.divisors-is)
-      (starts-same n a.m rows multipliers divisors s.requires.working3.0 some (omega (arith, gcd-is q, w.if-g-gt1.false)))
+          rw (w.rows-is, w.multipliers-is, w.divisors-is)
+          (starts-same n a.m rows multipliers divisors s.requires.working3.0 some (omega (arith, gcd-is q, w.if-g-gt1.false)))
     ]
 
 abbrev pub start : Joined-g-gt1 → Start

@@ -1,7 +1,7 @@
 -- `entries::fill_rows` meets its contract. What is left to write from the machine in hand is what was to be written at the start.
 use mathlib.Core.Path.{◌≡◌}
 use mathlib.Core.List.{[], ◌∷◌, ◌++◌}
-use Prim.Native.Nat.{suc, ◌+◌, ◌-◌, ◌≤◌}
+use Prim.Native.Nat.{suc, ◌-◌, ◌≤◌}
 use lib.ListN.{length, drop}
 use Rattle.matrix.specs.Bytes.{line_feed}
 use Rattle.matrix.specs.Poured.{page, written}

@@ -1,7 +1,6 @@
 -- The places of `solver::solve`: what each check tells of the call.
 use mathlib.Core.Path.{◌≡◌, sym, ◌∙◌}
 use mathlib.Core.Bool.{true}
-use borrow.Author.Tests.{not-false}
 use lib.ListN.{length}
 use Rattle.rules.specs.Outcomes.{Results, in_range, right_lengths}
 use Rattle.outcomes.specs.Answered.{tables}
