@@ -9,7 +9,7 @@ use std::io;
 use std::io::Read;
 
 // What one call moved.
-#[derive(Drop)]
+#[derive(Clone, Copy)]
 pub enum Move {
     Bytes(usize),
     End,
@@ -17,7 +17,7 @@ pub enum Move {
 }
 
 // A text of so many bytes, or one that could not be read.
-#[derive(Drop)]
+#[derive(Clone, Copy)]
 pub enum Text {
     Whole(usize),
     Unreadable,

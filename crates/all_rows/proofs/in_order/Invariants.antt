@@ -1,10 +1,5 @@
--- `all_rows::in_order` meets its contract: a turn works on the first row of the tails of the tables, and the run ends with a conflict or a
--- refusal there, or goes on with the tails behind it. `Places` has the invariant, and what holds after the calls of a turn.
 -- The loop of `all_rows::in_order`. Before row j the tails of the tables are good, at most 64·j steps are made, and what the run from
 -- row j comes to is what the whole run comes to.
--- At each return of `all_rows::in_order` every table is as long as at entry.
--- Numbers of `all_rows::in_order` that fit: places in tables of at most 1056 numbers, of 8 bytes each, and rows of at most 32. They are
--- laws of numbers alone, since arithmetic takes long where all that holds at a place of the code is in sight.
 use mathlib.Core.Path.{◌≡◌}
 use Prim.Native.Nat.{suc, ◌-◌}
 use lib.ListN.{length}

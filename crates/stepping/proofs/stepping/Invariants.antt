@@ -1,8 +1,5 @@
--- `stepping::stepping` meets its contract: what a turn of its loop needs, and what it returns. `Places` has the invariant, and what
--- holds after the calls of a turn.
 -- The loop of `stepping::stepping`. At its head the tables are good and as long as at entry, and what is ahead of them is what was
 -- ahead at first. A turn makes one step: it is refused, it closes a column, or the next one is ahead.
--- Before the loop of `stepping::stepping`: the smallest coefficient of the row gives the bound, and with it the loop may begin.
 use mathlib.Core.Path.{◌≡◌}
 use Prim.Native.Nat.{suc, ◌+◌}
 use Rattle.stepping.proofs.Going.{comes_to, Long, Going}
