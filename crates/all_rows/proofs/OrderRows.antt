@@ -1,4 +1,4 @@
--- What the work on one row answers, by numbers: where it passes, it has made at most 64 steps, and the D of a conflict is at most W-as-W.
+-- What the work on one row answers, by numbers: where it passes, it has made at most 64 steps, and the D of a conflict is at most W·W.
 use mathlib.Core.Path.{◌≡◌, refl, subst}
 use mathlib.Core.Bool.{Bool, true, false}
 use mathlib.Core.List.{List, map}

@@ -1,4 +1,4 @@
--- The numbers of a conflict, in the run of document 01: its multipliers lie in -W..W, and D, which is not listed, is at most W-as-W, so that
+-- The numbers of a conflict, in the run of document 01: its multipliers lie in -W..W, and D, which is not listed, is at most W·W, so that
 -- the checker takes both.
 use mathlib.Core.Path.{◌≡◌, refl}
 use mathlib.Core.Bool.{Bool, true, false}
@@ -20,11 +20,11 @@ use Rattle.rules.specs.Elimination.{closing, stepping, step_bound, work, in_orde
 use Rattle.rules.proofs.Within.{Within, AllWithin, StateWithin, Passes, reduced-within, work-within}
 use Rattle.rules.proofs.RunWithin.{start-within, carried-within}
 
--- small enough for the checker, since W-as-W is below 2^56
+-- small enough for the checker, since W·W is below 2^56
 abbrev Small : List ℤ → ℕ → Type 0
 Small multipliers d = (all_within multipliers ≡ true) × (d ≤ W * W)
 
--- the D of a row within the limit is at most W-as-W, as a gcd of numbers within it is within it
+-- the D of a row within the limit is at most W·W, as a gcd of numbers within it is within it
 within-small : (n : ℕ) (e : Carried) → Within e → Small e.multipliers (e.divisor * gcd_of_coefficients n e)
 unfolding gcd_of_coefficients
 within-small n e w = (w.multipliers, mul-le-mul w.most (bounded-gcd W (take n e.row) (bounded-take W n e.row w.row)))

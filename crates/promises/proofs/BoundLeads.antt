@@ -147,7 +147,7 @@ bound-closes n (suc (suc most)) row c b =
 
     go : Dec (nat_abs (left n row) ≡ 0) → (step_bound (size n second) ≤ suc most → ClosedWithin n (suc most) second)
         → (step_bound (size n third) ≤ most → ClosedWithin n most third) → ClosedWithin n (suc (suc most)) row
-    go (yes e) from_Second from-third =
-        λ big. from_Second (omega (arith, bound-double (size n second) (size n row) (above n second (still c)) (by_one n row c big e)))
-    go (no e) from_Second from-third =
+    go (yes e) from-second from-third =
+        λ big. from-second (omega (arith, bound-double (size n second) (size n row) (above n second (still c)) (by_one n row c big e)))
+    go (no e) from-second from-third =
         λ big _. from-third (omega (arith, bound-double (size n third) (size n row) (above n third (still (still c))) (by_two n row c big e)))

@@ -32,7 +32,7 @@ crosswise a b =
     ∙ mul_assoc (a / e) e (b / e)
     ∙ ap (λ x. a / e * x) (mul_comm e (b / e) ∙ div-mul_cancel e (gcd-r a b))
 
--- the row's value R less b times the parameter P, by D-as-R ≡ M and d·P ≡ S
+-- the row's value R less b times the parameter P, by D·R ≡ M and d·P ≡ S
 loses : (D share part d b R P M S : ℤ) → D *ℤ share ≡ part *ℤ d → D *ℤ R ≡ M → d *ℤ P ≡ S
     → (D *ℤ share) *ℤ (R +ℤ (pos 0 -ℤ b) *ℤ P) ≡ share *ℤ M -ℤ (b *ℤ part) *ℤ S
 loses D share part d b R P M S x y z =

@@ -24,7 +24,7 @@ use Rattle.promises.proofs.Invariant.{Carries}
 pub pos-nonzero : {n : ℕ} → 0 < n → pos n ≡ pos 0 → ⊥
 pos-nonzero {n} h e = let z : n ≡ 0 = cc in omega arith
 
--- D-as-R ≡ S, with D = d·g and S = s·g, is d·R ≡ s
+-- D·R ≡ S, with D = d·g and S = s·g, is d·R ≡ s
 cancelled : (D R S d s g : ℤ) → (g ≡ pos 0 → ⊥) → D *ℤ R ≡ S → d *ℤ g ≡ D → s *ℤ g ≡ S → d *ℤ R ≡ s
 cancelled D R S d s g n e x y =
     *ℤ-cancel-r g n

@@ -110,6 +110,7 @@ fn variables(columns: usize) -> usize
 }
 
 // The system that a whole text says, if it has not too many rows of a kind.
+#[tactic(auto, unfolding(matrix::specs::Reader::counted))]
 fn counted(m: Machine) -> Reading
     ensures { result ≡ counted_of m }
 {

@@ -8,7 +8,7 @@ use native.Mathlib.Omega.{arith}
 use lib.Dec.{lit≤}
 use lib.ListN.{length, take, replicate, length-replicate}
 use lib.Seq.{length-take-le}
-use Rattle.elimination.proofs.eliminate.Goals.{After-large_room-multipliers, After-small_room-few_multipliers, Start, Then-n-le16}
+use Rattle.elimination.proofs.eliminate.Goals.{After-large_room-multipliers, After-small_room-few_multipliers, Start}
 use Rattle.elimination.proofs.eliminate.Goals as goal
 
 -- a beginning of a room
@@ -26,11 +26,11 @@ module _ (s : Start) (p q : ℕ) (few : s.args.m ≤ p) (short : s.args.n ≤ q)
   square-fits : s.args.m * s.args.m ≤ p * p
   square-fits = mul-le-mul few few
 
-small_size : (c : Then-n-le16) → let s = c in s.args.m * (s.args.n + 1) ≤ 136
-small_size c = size_fits (goal.at.Then-n-le16 c).Start 8 16 c.if-m-le8.true c.if-n-le16.true
+small_size : (s : Start) → s.args.m ≤ 8 → s.args.n ≤ 16 → s.args.m * (s.args.n + 1) ≤ 136
+small_size s few short = size_fits s 8 16 few short
 
-small-square : (c : Then-n-le16) → let s = c in s.args.m * s.args.m ≤ 136
-small-square c = le_trans (square-fits (goal.at.Then-n-le16 c).Start 8 16 c.if-m-le8.true c.if-n-le16.true) (lit≤ tt)
+small-square : (s : Start) → s.args.m ≤ 8 → s.args.n ≤ 16 → s.args.m * s.args.m ≤ 136
+small-square s few short = le_trans (square-fits s 8 16 few short) (lit≤ tt)
 
 large-size : (s : Start) → s.args.m * (s.args.n + 1) ≤ 1056
 large-size s = size_fits s 32 32 s.requires.le_n.2 s.requires.le_n.1
@@ -44,11 +44,11 @@ divisors-lent s = lent s.args.m 32 (replicate {A = ℕ} 32 1) (sym (length-repli
 -- ---- the small room
 few-rows-lent : (c : After-small_room-few_multipliers) → let s = c in
     length (take (s.args.m * (s.args.n + 1)) c.small_room-few_rows.result) ≡ s.args.m * (s.args.n + 1)
-few-rows-lent c = lent _ 136 c.small_room-few_rows.result c.small_room-few_rows.ensures (small_size (goal.at.After-small_room-few_multipliers c).Then-n-le16)
+few-rows-lent c = lent _ 136 c.small_room-few_rows.result c.small_room-few_rows.ensures (small_size (goal.at.After-small_room-few_multipliers c).Start (omega arith) (omega arith))
 
 few-multipliers-lent : (c : After-small_room-few_multipliers) → let s = c in
     length (take (s.args.m * s.args.m) c.small_room-few_multipliers.result) ≡ s.args.m * s.args.m
-few-multipliers-lent c = lent _ 136 c.small_room-few_multipliers.result c.small_room-few_multipliers.ensures (small-square (goal.at.After-small_room-few_multipliers c).Then-n-le16)
+few-multipliers-lent c = lent _ 136 c.small_room-few_multipliers.result c.small_room-few_multipliers.ensures (small-square (goal.at.After-small_room-few_multipliers c).Start (omega arith) (omega arith))
 
 -- ---- the large room
 rows-lent : (c : After-large_room-multipliers) → let s = c in
@@ -65,14 +65,15 @@ overflow_mul-square c = omega (arith, large-square (goal.at.overflow_mul-square 
 
 pub slice_bounds-few_rows-end : goal.slice_bounds-few_rows-end
 slice_bounds-few_rows-end c =
-    inside _ 136 c.small_room-few_rows.result c.small_room-few_rows.ensures (small_size (goal.at.slice_bounds-few_rows-end c).Then-n-le16)
+    inside _ 136 c.small_room-few_rows.result c.small_room-few_rows.ensures (small_size (goal.at.slice_bounds-few_rows-end c).Start (omega arith) (omega arith))
 
 pub slice_bounds-eliminate_in-end : goal.slice_bounds-eliminate_in-end
 slice_bounds-eliminate_in-end c = sym (few-rows-lent (goal.at.slice_bounds-eliminate_in-end c).After-small_room-few_multipliers)
 
 pub slice_bounds-few_multipliers-end : goal.slice_bounds-few_multipliers-end
 slice_bounds-few_multipliers-end c =
-    let r = c in inside _ 136 r.small_room-few_multipliers.result r.small_room-few_multipliers.ensures (small-square (goal.at.slice_bounds-few_multipliers-end r).Then-n-le16)
+    inside _ 136 c.small_room-few_multipliers.result c.small_room-few_multipliers.ensures
+    (small-square (goal.at.slice_bounds-few_multipliers-end c).Start (omega arith) (omega arith))
 
 pub slice_bounds-eliminate_in-end-then-n-le16 : goal.slice_bounds-eliminate_in-end-then-n-le16
 slice_bounds-eliminate_in-end-then-n-le16 c = sym (few-multipliers-lent (goal.at.slice_bounds-eliminate_in-end-then-n-le16 c).After-small_room-few_multipliers)

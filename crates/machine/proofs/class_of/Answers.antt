@@ -1,5 +1,4 @@
 -- `machine::class_of` meets its contract. At each key the definition computes; a digit's two tests pick its case; in `_` no key holds.
--- Assumes nothing.
 use mathlib.Core.Path.{◌≡◌, sym, ap}
 use mathlib.Core.Logic.{⊎_elim}
 use native.Mathlib.Omega.{arith}

@@ -1,6 +1,7 @@
 -- `outcomes::look` meets its contract: the three answers, by what the two looks find.
 use mathlib.Core.Path.{sym, ap, ap₂, ◌∙◌}
 use Prim.Native.Nat.{ℕ}
+use native.Mathlib.Omega.{arith}
 use Rattle.rules.specs.declared.Outcome.TheVariants.{OneRowConflict, TwoRowConflict}
 use Rattle.rows.specs.Table.{rows_of}
 use Rattle.outcomes.proofs.Looked.{looked-one, looked-two, looked-open}
@@ -26,4 +27,4 @@ returns c =
     let f = c in
     let a = f.args in
     looked-open a.n a.k a.steps (rows_of _ a.k a.tightened.now) (sym f.first_alone-one.ensures ∙ f.if-one-ne0.false)
-    (sym f.first_pair-pair.ensures.0 ∙ c.if-pair-ne0.false)
+    (let e = f.first_pair-pair.ensures.0 in omega arith)

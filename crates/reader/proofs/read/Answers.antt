@@ -1,5 +1,6 @@
 -- `reader::read` meets its contract: the tests pick the case.
 use mathlib.Core.Path.{◌≡◌, sym, ap, ◌∙◌}
+use native.Mathlib.Omega.{arith}
 use lib.IntN.{pos}
 use lib.ListN.{replicate}
 use Prim.Native.Nat.{ℕ}
@@ -32,7 +33,7 @@ returns-then-text-gt65536 c =
 pub read_short-requires : goal.read_short-requires
 read_short-requires c =
     let o = c in
-    (c.if-text-gt65536.false, blank (goal.at.read_short-requires o).After-fill, blank-2 (goal.at.read_short-requires o).After-fill-2)
+    (omega arith, blank (goal.at.read_short-requires o).After-fill, blank-2 (goal.at.read_short-requires o).After-fill-2)
 
 pub returns : goal.returns
 returns c =

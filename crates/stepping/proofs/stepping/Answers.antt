@@ -1,6 +1,6 @@
 -- `stepping::stepping` meets its contract: how the loop begins, what a turn of it needs, and what it returns. `Places` has what holds
 -- before the loop and after the calls of a turn.
-use mathlib.Core.Path.{sym, ◌∙◌, ap, refl}
+use mathlib.Core.Path.{◌≡◌, sym, ◌∙◌, ap, refl}
 use Prim.Native.Nat.{◌-◌, ℕ, ◌+◌}
 use native.Mathlib.Omega.{arith}
 use borrow.Author.Tests.{eq-eqb, ne_eqb, not-true}
@@ -225,7 +225,7 @@ loop-left-preserved c =
     let t = turning f in
     let l = (head t).loop-left in
     let z = t.turn.new in
-    (long-turned t, going_on l.invariant.1 (more t) l.k (lead t) z.rows z.substitution z.back (stepped f) (ne_eqb (nat_abs (lead t)) 1 (λ e. c.if-magnitude-eq1.false (measured q ∙ e))), c.smallest-k-in-loop-left.ensures)
+    (long-turned t, going_on l.invariant.1 (more t) l.k (lead t) z.rows z.substitution z.back (stepped f) (let m = measured q in let other : nat_abs (lead t) ≡ 1 → ⊥ = omega arith in ne_eqb (nat_abs (lead t)) 1 other), c.smallest-k-in-loop-left.ensures)
 
 pub shape_of-rows : goal.shape_of-rows
 shape_of-rows c = c.loop-left.invariant.0.rows_kept
