@@ -45,6 +45,7 @@ CONSTRUCTORS = {
     "two-row conflict": "TwoRowConflict",
 }
 REFUSALS = {3: "BadEntry", 4: "TooLarge", 5: "LargeSum"}
+TABLES = ("Equations", "Inequalities", "Multipliers")
 W = document01.W
 # what the project's reading of the document rests on, so that it is held fast too
 READINGS = (
@@ -69,6 +70,7 @@ TELLING = (
 HEAD = """-- Systems of every kind of outcome, with the answers of the independent program: made by `python3 independent/theorem.py`.
 use mathlib.Core.Path.{◌≡◌, refl}
 use mathlib.Core.List.{List, [], ◌∷◌, map}
+use Rattle.rules.specs.declared.Table.TheVariants.{Equations, Inequalities}
 use Rattle.rules.specs.declared.Refusal.TheVariants.{BadEntry, TooLarge, LargeSum}
 use Rattle.rules.specs.declared.Outcome.TheVariants.{Open, EquationConflict, OneRowConflict, TwoRowConflict}
 use Rattle.rules.proofs.Case.{Case, p, m, answered, filled, unmet, refused}
@@ -102,6 +104,8 @@ def constructed(outcome):
     if kind == "refusal":
         kind, *values = values
         name = REFUSALS[kind]
+        if name == "BadEntry":
+            values = [TABLES[values[0]], *values[1:]]
     else:
         name = CONSTRUCTORS[kind]
     return "(" + " ".join([name] + [str(value) for value in values]) + ")"

@@ -1,81 +1,64 @@
 // The answer to a text: read, solved and printed.
 #![tactic(auto)]
 
-ghost use Rattle.std.specs.Prelude.{◌≡◌, suc, ◌≤◌, ◌*◌, length, take};
+ghost use Rattle.std.specs.Prelude.{◌≡◌, suc, ◌≤◌, ◌*◌, length};
 ghost use Rattle.matrix.specs.Poured.{page as page_of, written};
 ghost use Rattle.matrix.specs.Program.{answered, program};
 
 use print_outcomes::print;
-use rules::Reading;
+use rules::{RowTables, StateTables, System};
 
-// Room for the rows of n variables, and for the other tables. A call settles what they hold, so only their lengths matter.
-fn rows() -> [i64; 1056]
-    ensures { 1056 ≡ length result }
+// Room for a table. A call settles what the tables hold, so only how long it is matters.
+fn room<T: Copy, const N: usize>(filling: T) -> [T; N]
+    ensures { N ≡ length result }
 {
-    [0; 1056]
+    [filling; N]
 }
 
-fn more_rows() -> [i64; 2112]
-    ensures { 2112 ≡ length result }
+// A system within the limits, into result tables of its own.
+fn print_system(system: System, equations: &[i64], inequalities: &[i64], page: &mut [u8]) -> usize
+    requires size { (1 ≤ system.n) × (system.n ≤ 32) × (system.m ≤ 32) × (system.k ≤ 64) }
+    requires lengths { (length equations.now ≡ system.m * suc system.n) × (length inequalities.now ≡ system.k * suc system.n) }
+    ensures { page_of page.new result ≡ written (answered system.n system.m system.k equations.now inequalities.now) (page_of page.old 0) }
 {
-    [0; 2112]
-}
-
-fn column_marks() -> [u8; 32]
-    ensures { 32 ≡ length result }
-{
-    [0; 32]
-}
-
-fn multipliers() -> [i64; 33]
-    ensures { 33 ≡ length result }
-{
-    [0; 33]
-}
-
-fn sets() -> [u64; 64]
-    ensures { 64 ≡ length result }
-{
-    [0; 64]
-}
-
-fn solve_and_print(
-    n: usize,
-    m: usize,
-    k: usize,
-    equations: &[i64],
-    inequalities: &[i64],
-    substitution: &mut [i64],
-    marks: &mut [u8],
-    back: &mut [i64],
-    reasons: &mut [i64],
-    conflict: &mut [i64],
-    tightened: &mut [i64],
-    used: &mut [u64],
-    page: &mut [u8],
-) -> usize
-    requires le_n { (1 ≤ n) × (n ≤ 32) × (m ≤ 32) × (k ≤ 64) × (length equations.now ≡ m * suc n) × (length inequalities.now ≡ k * suc n) }
-    requires substitution_len { (length substitution.old ≡ n * suc n) × (length marks.old ≡ n) × (length back.old ≡ n * suc n) × (length reasons.old ≡ n * suc m) × (length conflict.old ≡ suc m) × (length tightened.old ≡ k * suc n) × (length used.old ≡ k) }
-    ensures { page_of page.new result ≡ written (answered n m k equations.now inequalities.now) (page_of page.old 0) }
-{
-    let outcome = solver::solve(
-        n,
-        m,
-        k,
+    let System { n, m, k } = system;
+    let square = n * (n + 1);
+    let reasons_size = n * (m + 1);
+    let rows_size = k * (n + 1);
+    let mut substitution = room::<i64, 1056>(0);
+    let mut marks = room::<u8, 32>(0);
+    let mut way_back = room::<i64, 1056>(0);
+    let mut reasons = room::<i64, 1056>(0);
+    let mut conflict = room::<i64, 33>(0);
+    let mut tightened = room::<i64, 2112>(0);
+    let mut used = room::<u64, 64>(0);
+    let mut state = StateTables {
+        substitution: &mut substitution[..square],
+        marks: &mut marks[..n],
+        way_back: &mut way_back[..square],
+        reasons: &mut reasons[..reasons_size],
+    };
+    let mut rows = RowTables {
+        tightened: &mut tightened[..rows_size],
+        used: &mut used[..k],
+    };
+    let conflict = &mut conflict[..m + 1];
+    let outcome = solver::solve_in(
+        system,
         equations,
         inequalities,
+        &mut state,
+        conflict,
+        &mut rows,
+    );
+    let StateTables {
         substitution,
         marks,
-        back,
-        reasons,
-        conflict,
-        tightened,
-        used,
-    );
+        ..
+    } = state;
+    let RowTables { tightened, used } = rows;
     print(
-        n,
-        m,
-        k,
+        system,
         outcome,
         substitution,
         marks,
@@ -86,62 +69,19 @@ fn solve_and_print(
     )
 }
 
-// A system within the limits, into result tables of its own.
-fn print_system(
-    n: usize,
-    m: usize,
-    k: usize,
-    equations: &[i64],
-    inequalities: &[i64],
-    page: &mut [u8],
-) -> usize
-    requires { (1 ≤ n) × (n ≤ 32) × (m ≤ 32) × (k ≤ 64) × (length equations.now ≡ m * suc n) × (length inequalities.now ≡ k * suc n) }
-    ensures { page_of page.new result ≡ written (answered n m k equations.now inequalities.now) (page_of page.old 0) }
-{
-    let square = n * (n + 1);
-    let reasons_size = n * (m + 1);
-    let rows_size = k * (n + 1);
-    let conflict_size = m + 1;
-    let mut substitution = rows();
-    let mut marks = column_marks();
-    let mut back = rows();
-    let mut reasons = rows();
-    let mut conflict = multipliers();
-    let mut tightened = more_rows();
-    let mut used = sets();
-    solve_and_print(
-        n,
-        m,
-        k,
-        equations,
-        inequalities,
-        &mut substitution[..square],
-        &mut marks[..n],
-        &mut back[..square],
-        &mut reasons[..reasons_size],
-        &mut conflict[..conflict_size],
-        &mut tightened[..rows_size],
-        &mut used[..k],
-        page,
-    )
-}
-
 // The whole reply from the front of the page on, and how long it is. What finds no room is left out.
 pub fn answer(text: &[u8], page: &mut [u8]) -> usize
     ensures { page_of page.new result ≡ written (program text.now) (page_of page.old 0) }
 {
-    let mut equations = rows();
-    let mut inequalities = more_rows();
-    let reading = reader::read(text, &mut equations, &mut inequalities);
-    match reading {
-        Reading::System { n, m, k } => print_system(
-            n,
-            m,
-            k,
-            &equations[..m * (n + 1)],
-            &inequalities[..k * (n + 1)],
+    let mut equations = room::<i64, 1056>(0);
+    let mut inequalities = room::<i64, 2112>(0);
+    match reader::read(text, &mut equations, &mut inequalities) {
+        Ok(system) => print_system(
+            system,
+            &equations[..system.m * (system.n + 1)],
+            &inequalities[..system.k * (system.n + 1)],
             page,
         ),
-        Reading::Unread(refusal) => print_errors::error(page, 0, refusal),
+        Err(refusal) => print_errors::error(page, 0, refusal),
     }
 }

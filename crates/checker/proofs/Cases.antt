@@ -11,14 +11,13 @@ use Rattle.rows.specs.Row.{all_within}
 use Rattle.rows.proofs.Bounded.{and_left, and_right}
 use Rattle.rules.specs.declared.Refusal.{Refusal}
 use Rattle.rules.specs.declared.Refusal.TheVariants.{OutOfRange, WrongLength}
-use Rattle.rules.specs.declared.Verdict.{Verdict}
-use Rattle.rules.specs.declared.Verdict.TheVariants.{NotChecked}
+use Rattle.std.specs.Prelude.{Result, Ok, Err}
+use Rattle.rules.specs.declared.Table.{Table}
+use Rattle.rules.specs.declared.Table.TheVariants.{Equations}
 use Rattle.rules.specs.Outcomes.{in_range, bad_entry}
 use Rattle.rules.specs.Checker.{judged, check}
-use Rattle.limits.specs.declared.Entries.{Entries}
-use Rattle.limits.specs.declared.Entries.TheVariants.{Good, Bad}
 use Rattle.limits.specs.Checked.{table_checked}
-use Rattle.checker.proofs.Judged.{pick}
+use Rattle.checker.proofs.Judged.{Verdict, pick}
 
 -- ---- the numbers that are in range
 pub record InRange (n m : ℕ) : Type 0 where
@@ -37,35 +36,35 @@ in-range n m e =
     }
 
 -- ---- what the check of a table answers tells of its entries
-abbrev answer : Bool → Refusal → Entries
-answer b x = elim b [ true ↦ Good | false ↦ Bad x ]
+abbrev answer : Bool → Refusal → Result (Unit {0}) Refusal
+answer b x = elim b [ true ↦ Ok tt | false ↦ Err x ]
 
-answer-good : (b : Bool) (x : Refusal) → Good ≡ answer b x → b ≡ true
+answer-good : (b : Bool) (x : Refusal) → Ok tt ≡ answer b x → b ≡ true
 answer-good true x e = refl
 answer-good false x e = cc
 
-answer-bad : (b : Bool) (x r : Refusal) → Bad r ≡ answer b x → (b ≡ false) × (r ≡ x)
+answer-bad : (b : Bool) (x r : Refusal) → Err r ≡ answer b x → (b ≡ false) × (r ≡ x)
 answer-bad true x r e = (cc, cc)
 answer-bad false x r e = (refl, cc)
 
 -- ---- the cases, in the order of the checks
 module _ (n m : ℕ) (equations table : List ℤ) where
   of_entries : Bool → Verdict
-  of_entries b = pick b (judged n m equations table) (NotChecked (bad_entry (suc n) 0 equations))
+  of_entries b = pick b (judged n m equations table) (Err (bad_entry (suc n) Equations equations))
 
   of_lengths : Bool → Bool → Verdict
   unfolding of_entries
-  of_lengths a b = pick (a && b) (of_entries (all_within equations)) (NotChecked WrongLength)
+  of_lengths a b = pick (a && b) (of_entries (all_within equations)) (Err WrongLength)
 
   of_range : Bool → Verdict
   unfolding of_lengths
-  of_range b = pick b (of_lengths (eqb (length equations) (m * suc n)) (eqb (length table) (suc m))) (NotChecked OutOfRange)
+  of_range b = pick b (of_lengths (eqb (length equations) (m * suc n)) (eqb (length table) (suc m))) (Err OutOfRange)
 
   check-is : check n m equations table ≡ of_range (in_range n m 0)
   unfolding check of_range of_lengths of_entries
   check-is = refl
 
-  pub out_of_range : in_range n m 0 ≡ false → NotChecked OutOfRange ≡ check n m equations table
+  pub out_of_range : in_range n m 0 ≡ false → Err OutOfRange ≡ check n m equations table
   unfolding of_range
   out_of_range h = sym (check-is ∙ ap of_range h)
 
@@ -74,12 +73,12 @@ module _ (n m : ℕ) (equations table : List ℤ) where
     unfolding of_range
     past-range = check-is ∙ ap of_range range
 
-    pub equations-wrong : (length equations ≡ m * suc n → ⊥) → NotChecked WrongLength ≡ check n m equations table
+    pub equations-wrong : (length equations ≡ m * suc n → ⊥) → Err WrongLength ≡ check n m equations table
     unfolding of_lengths
     equations-wrong h = sym (past-range ∙ ap (λ (a : Bool). of_lengths a (eqb (length table) (suc m))) (ne_eqb (length equations) (m * suc n) h))
 
     module _ (long : length equations ≡ m * suc n) where
-      pub table-wrong : (length table ≡ suc m → ⊥) → NotChecked WrongLength ≡ check n m equations table
+      pub table-wrong : (length table ≡ suc m → ⊥) → Err WrongLength ≡ check n m equations table
       unfolding of_lengths
       table-wrong h = sym (past-range ∙ ap₂ of_lengths (eq-eqb (length equations) (m * suc n) long) (ne_eqb (length table) (suc m) h))
 
@@ -88,16 +87,16 @@ module _ (n m : ℕ) (equations table : List ℤ) where
         unfolding of_lengths
         past-lengths = past-range ∙ ap₂ of_lengths (eq-eqb (length equations) (m * suc n) long) (eq-eqb (length table) (suc m) last)
 
-        pub entry-bad : (refusal : Refusal) → Bad refusal ≡ table_checked (suc n) 0 equations → NotChecked refusal ≡ check n m equations table
+        pub entry-bad : (refusal : Refusal) → Err refusal ≡ table_checked (suc n) Equations equations → Err refusal ≡ check n m equations table
         unfolding of_entries
         entry-bad refusal e =
-            let told = answer-bad (all_within equations) (bad_entry (suc n) 0 equations) refusal e in
-            ap NotChecked told.1 ∙ sym (past-lengths ∙ ap of_entries told.0)
+            let told = answer-bad (all_within equations) (bad_entry (suc n) Equations equations) refusal e in
+            ap Err told.1 ∙ sym (past-lengths ∙ ap of_entries told.0)
 
         pub entries-good : all_within equations ≡ true → judged n m equations table ≡ check n m equations table
         unfolding of_entries
         entries-good h = sym (past-lengths ∙ ap of_entries h)
 
 -- a table that is good is within the limit
-pub good-within : (width number : ℕ) (table : List ℤ) → Good ≡ table_checked width number table → all_within table ≡ true
-good-within width number table e = answer-good (all_within table) (bad_entry width number table) e
+pub good-within : (width : ℕ) (which : Table) (table : List ℤ) → Ok tt ≡ table_checked width which table → all_within table ≡ true
+good-within width which table e = answer-good (all_within table) (bad_entry width which table) e

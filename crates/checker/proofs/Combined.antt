@@ -33,10 +33,21 @@ unfolding zeros
 length-zeros w = length-replicate w (pos 0)
 
 -- ---- the row that comes back
-pub combined-is : (n : ℕ) (multipliers : List ℤ) (equations : List (List ℤ))
-    → gathered (zeros (suc n)) multipliers equations ≡ combined n multipliers equations
-unfolding combined
-combined-is n multipliers equations = refl
+module _ (n m : ℕ) (multipliers equations : List ℤ) (few : n ≤ 32) (many : length multipliers ≡ m) where
+  -- the first n + 1 of the 33 places
+  abbrev pub place : List ℤ
+  place = take (n + 1) (replicate 33 (pos 0))
+
+  pub empty : place ≡ zeros (suc n)
+  empty = lent-zeros n 33 (omega arith)
+
+  pub width : length place ≡ suc n
+  width = ap length empty ∙ length-zeros (suc n)
+
+  pub gotten : (row : List ℤ) → row ≡ gathered place multipliers (rows_of (length place) (length multipliers) equations)
+      → row ≡ combined n multipliers (rows_of (suc n) m equations)
+  unfolding combined
+  gotten row e = rw (width, many, empty) at e
 
 pub length-combined : (n : ℕ) (multipliers : List ℤ) (equations : List (List ℤ)) → length (combined n multipliers equations) ≡ suc n
 unfolding combined

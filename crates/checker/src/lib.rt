@@ -4,10 +4,15 @@
 ghost use Rattle.std.specs.Prelude.{◌≡◌, true, suc, ◌≤◌, ◌*◌, nat_abs, length};
 ghost use Rattle.whole.specs.Gcd.{divides as divides_of};
 ghost use Rattle.rows.specs.Row.{bounded, all_within};
-ghost use Rattle.rules.specs.Checker.{divides_all, judged, check as check_of};
+ghost use Rattle.rows.specs.Table.{rows_of};
+ghost use Rattle.rules.specs.declared.Refusal.TheVariants.{BadEntry};
+ghost use Rattle.rules.specs.declared.Table.TheVariants.{Multipliers};
+ghost use Rattle.rules.specs.Checker.{divides_all, refutes as refutes_of, judged, check as check_of};
 
-use limits::Entries;
-use rules::{Refusal, Verdict};
+use rules::{Refusal, Table};
+
+// 2 ^ 56
+const LARGEST_D: i64 = 72057594037927936;
 
 // Whether d divides z; 0 divides only 0.
 fn divides(d: u64, z: i64) -> bool
@@ -26,77 +31,67 @@ fn divides_all(d: u64, row: &[i64]) -> bool
     requires { bounded 9223372036854775807 row.now ≡ true }
     ensures { result ≡ divides_all d row.now }
 {
-    let mut i = 0;
-    while i < row.len() {
-        let z = row[i];
-        if !divides(d, z) {
+    for z in row {
+        if !divides(d, *z) {
             return false;
         }
-        i += 1;
     }
     true
 }
 
+// Refusal 3 for a multiplier, or for D.
+fn bad_multiplier(column: usize) -> Refusal
+    ensures { result ≡ BadEntry Multipliers 1 column }
+{
+    Refusal::BadEntry {
+        table: Table::Multipliers,
+        row: 1,
+        column,
+    }
+}
+
+// Whether D divides each combined coefficient, and not the combined constant.
+fn refutes(n: usize, m: usize, multipliers: &[i64], d: u64, equations: &[i64]) -> bool
+    requires m { (n ≤ 32) × (m ≤ 32) × (length multipliers.now ≡ m) × (length equations.now ≡ m * suc n) }
+    requires within { (all_within multipliers.now ≡ true) × (all_within equations.now ≡ true) }
+    ensures { result ≡ refutes_of n multipliers.now d (rows_of (suc n) m equations.now) }
+{
+    let w = n + 1;
+    let mut room = [0i64; 33];
+    let row = &mut room[..w];
+    tables::gather(row, multipliers, equations);
+    let constant = row[n];
+    !divides(d, constant) && divides_all(d, &row[..n])
+}
+
 // The judgement on tables of the right lengths and equations within the limit.
-fn judge(n: usize, m: usize, equations: &[i64], table: &[i64]) -> Verdict
+fn judge(n: usize, m: usize, equations: &[i64], table: &[i64]) -> Result<bool, Refusal>
     requires le_n { (1 ≤ n) × (n ≤ 32) × (m ≤ 32) × (length equations.now ≡ m * suc n) × (length table.now ≡ suc m) }
     requires equations_value { all_within equations.now ≡ true }
     ensures { result ≡ judged n m equations.now table.now }
 {
-    let w = n + 1;
-    let bad = rows::first_beyond(&table[..m]);
-    if bad < m {
-        return Verdict::NotChecked(Refusal::BadEntry {
-            table: 2,
-            row: 1,
-            column: bad + 1,
-        });
+    let multipliers = &table[..m];
+    if let Some(bad) = rows::first_beyond(multipliers) {
+        return Err(bad_multiplier(bad + 1));
     }
     let d = table[m];
-    if d < 0 {
-        return Verdict::NotChecked(Refusal::BadEntry {
-            table: 2,
-            row: 1,
-            column: m + 1,
-        });
+    if d < 0 || LARGEST_D < d {
+        return Err(bad_multiplier(m + 1));
     }
-    if 72057594037927936 < d {
-        return Verdict::NotChecked(Refusal::BadEntry {
-            table: 2,
-            row: 1,
-            column: m + 1,
-        });
-    }
-    let by = whole::magnitude(d);
-    let mut row = [0i64; 33];
-    tables::gather(&mut row[..w], &table[..m], equations);
-    let c = row[n];
-    if divides(by, c) {
-        return Verdict::No;
-    }
-    if divides_all(by, &row[..n]) {
-        return Verdict::Yes;
-    }
-    Verdict::No
+    Ok(refutes(n, m, multipliers, whole::magnitude(d), equations))
 }
 
 // Yes, no, or a refusal, on every input.
-pub fn check(n: usize, m: usize, equations: &[i64], table: &[i64]) -> Verdict
+pub fn check(n: usize, m: usize, equations: &[i64], table: &[i64]) -> Result<bool, Refusal>
     ensures { result ≡ check_of n m equations.now table.now }
 {
     if !limits::in_range(n, m, 0) {
-        return Verdict::NotChecked(Refusal::OutOfRange);
+        return Err(Refusal::OutOfRange);
     }
     let w = n + 1;
-    if equations.len() != m * w {
-        return Verdict::NotChecked(Refusal::WrongLength);
+    if equations.len() != m * w || table.len() != m + 1 {
+        return Err(Refusal::WrongLength);
     }
-    if table.len() != m + 1 {
-        return Verdict::NotChecked(Refusal::WrongLength);
-    }
-    let entries = limits::check_table(w, 0, equations);
-    match entries {
-        Entries::Bad(refusal) => Verdict::NotChecked(refusal),
-        Entries::Good => judge(n, m, equations, table),
-    }
+    limits::check_table(w, Table::Equations, equations)?;
+    judge(n, m, equations, table)
 }

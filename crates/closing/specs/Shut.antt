@@ -2,7 +2,9 @@
 use Rattle.std.specs.Prelude.{List, [], ◌∷◌, ◌++◌, map, ℕ, suc, get_or, take, set, ℤ, pos}
 use Rattle.rows.specs.Row.{scaled, all_within}
 use Rattle.rows.specs.Table.{rows_of, flat}
+use Rattle.rules.specs.declared.StateTables.{StateTables}
 use Rattle.rules.specs.Elimination.{Carried, corrected, listed_d}
+use Rattle.steps.specs.declared.WorkTables.{WorkTables}
 use Rattle.steps.specs.Shown.{Tried, tried, later_of}
 
 -- what (d) makes where a column closes
@@ -41,3 +43,10 @@ shut_by k d reason later marks reasons = tried (all_within (listed_shut k d reas
 abbrev pub shut_of : ℕ → ℕ → ℕ → ℤ → List ℤ → List ℤ → List ℕ → List ℕ → List ℤ → Tried Shut
 shut_of n m k a rows multipliers divisors marks reasons =
     shut_by k (get_or divisors 0 0) (scaled a (take m multipliers)) (later_of n m rows multipliers divisors) marks (rows_of (suc m) n reasons)
+
+-- the same of the tables as the caller lends them
+abbrev pub shut_shown : ℕ → ℕ → WorkTables → StateTables → Shut
+shut_shown n m work state = shut_tables n m work.rows.now work.multipliers.now work.divisors.now state.marks.now state.reasons.now
+
+abbrev pub shut_made : ℕ → ℕ → ℕ → ℤ → WorkTables → StateTables → Tried Shut
+shut_made n m k a work state = shut_of n m k a work.rows.now work.multipliers.now work.divisors.now state.marks.now state.reasons.now

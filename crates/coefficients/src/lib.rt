@@ -13,11 +13,8 @@ pub fn smallest(row: &[i64]) -> usize
     let mut best = row.len();
     // the size of the number there less one: of a 0 that is the largest of all, so that a 0 is never taken
     let mut least: u64 = 268435455;
-    let mut i = row.len();
-    while 0 < i {
-        i -= 1;
-        let z = row[i];
-        let less_one = std::num::wrapping_sub_u64(whole::magnitude(z), 1);
+    for (i, z) in row.iter().enumerate().rev() {
+        let less_one = whole::magnitude(*z).wrapping_sub(1);
         if less_one <= least {
             best = i;
             least = less_one;
@@ -31,11 +28,8 @@ pub fn quotients(into: &mut [i64], row: &[i64], a: i64)
     requires { (length into.old ≡ length row.now) × (all_within row.now ≡ true) × (unsigned_abs a ≤ W) × (a ≢ pos 0) }
     ensures { into.new ≡ quotients_of a row.now }
 {
-    let mut i = 0;
-    while i < row.len() {
-        let z = row[i];
-        into[i] = whole::quotient(z, a);
-        i += 1;
+    for (i, z) in row.iter().enumerate() {
+        into[i] = whole::quotient(*z, a);
     }
 }
 
@@ -44,17 +38,5 @@ pub fn opposites(row: &[i64], other: &[i64]) -> bool
     requires { (all_within row.now ≡ true) × (all_within other.now ≡ true) }
     ensures { result ≡ opposite row.now other.now }
 {
-    if row.len() != other.len() {
-        return false;
-    }
-    let mut i = 0;
-    while i < row.len() {
-        let a = row[i];
-        let b = other[i];
-        if a + b != 0 {
-            return false;
-        }
-        i += 1;
-    }
-    true
+    row.len() == other.len() && row.iter().zip(other).all(|(a, b)| *a + *b == 0)
 }

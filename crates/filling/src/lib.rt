@@ -5,6 +5,10 @@ ghost use Rattle.std.specs.Prelude.{◌≡◌, map, suc, ◌≤◌, ◌*◌, pos
 ghost use Rattle.rows.specs.Row.{unit_row};
 ghost use Rattle.rows.specs.Table.{flat};
 ghost use Rattle.rules.specs.Elimination.{counted, identity};
+ghost use Rattle.rules.specs.Lent.{SameTables, SameLengths, SameRows};
+ghost use Rattle.filling.specs.Zeros.{Zeros};
+
+use rules::{RowTables, StateTables};
 
 // Row i of the table is 1 at column i, else 0.
 pub fn units(table: &mut [i64], count: usize, w: usize)
@@ -12,62 +16,47 @@ pub fn units(table: &mut [i64], count: usize, w: usize)
     ensures { table.new ≡ flat (map (unit_row w) (counted 0 count)) }
 {
     copying::fill(table, 0);
-    let mut r = 0;
-    while r < count {
+    for r in 0..count {
         table[r * w + r] = 1;
-        r += 1;
     }
 }
 
 // The start: each x is its y, all columns are open, no reasons.
-pub fn begin(
-    substitution: &mut [i64],
-    marks: &mut [u8],
-    back: &mut [i64],
-    reasons: &mut [i64],
-    n: usize,
-)
-    requires { (length substitution.old ≡ n * suc n) × (length back.old ≡ n * suc n) × (n ≤ 32) }
-    ensures substitution { substitution.new ≡ flat (identity n) }
-    ensures marks { marks.new ≡ replicate (length marks.old) 1 }
-    ensures back { back.new ≡ flat (identity n) }
-    ensures reasons { reasons.new ≡ replicate (length reasons.old) (pos 0) }
+pub fn begin(state: &mut StateTables, n: usize)
+    requires { (length state.old.substitution.now ≡ n * suc n) × (length state.old.way_back.now ≡ n * suc n) × (n ≤ 32) }
+    ensures substitution { state.new.substitution.now ≡ flat (identity n) }
+    ensures marks { state.new.marks.now ≡ replicate (length state.old.marks.now) 1 }
+    ensures way_back { state.new.way_back.now ≡ flat (identity n) }
+    ensures reasons { state.new.reasons.now ≡ replicate (length state.old.reasons.now) (pos 0) }
+    ensures same { SameTables state.old state.new × SameLengths state.old state.new }
 {
     let w = n + 1;
-    units(substitution, n, w);
-    copying::fill_marks(marks, 1);
-    units(back, n, w);
-    copying::fill(reasons, 0);
+    units(state.substitution, n, w);
+    state.marks.fill(1);
+    units(state.way_back, n, w);
+    state.reasons.fill(0);
 }
 
 // All seven result tables full of zeros.
-pub fn clear(
-    substitution: &mut [i64],
-    marks: &mut [u8],
-    back: &mut [i64],
-    reasons: &mut [i64],
-    conflict: &mut [i64],
-    tightened: &mut [i64],
-    used: &mut [u64],
-)
-    ensures run { (substitution.new ≡ replicate (length substitution.old) (pos 0)) × (marks.new ≡ replicate (length marks.old) 0) × (back.new ≡ replicate (length back.old) (pos 0)) × (reasons.new ≡ replicate (length reasons.old) (pos 0)) }
-    ensures rest { (conflict.new ≡ replicate (length conflict.old) (pos 0)) × (tightened.new ≡ replicate (length tightened.old) (pos 0)) × (used.new ≡ replicate (length used.old) 0) }
+pub fn clear(state: &mut StateTables, conflict: &mut [i64], rows: &mut RowTables)
+    ensures same { SameTables state.old state.new × SameLengths state.old state.new × SameRows rows.old rows.new }
+    ensures state { Zeros state.old state.new }
+    ensures conflict { conflict.new ≡ replicate (length conflict.old) (pos 0) }
+    ensures rows { (rows.new.tightened.now ≡ replicate (length rows.old.tightened.now) (pos 0)) × (rows.new.used.now ≡ replicate (length rows.old.used.now) 0) }
 {
-    clear_run(substitution, marks, back, reasons);
-    copying::fill(conflict, 0);
-    copying::fill(tightened, 0);
-    copying::fill_sets(used, 0);
+    clear_run(state);
+    conflict.fill(0);
+    rows.tightened.fill(0);
+    rows.used.fill(0);
 }
 
 // The four result tables of the run full of zeros.
-pub fn clear_run(substitution: &mut [i64], marks: &mut [u8], back: &mut [i64], reasons: &mut [i64])
-    ensures substitution { substitution.new ≡ replicate (length substitution.old) (pos 0) }
-    ensures marks { marks.new ≡ replicate (length marks.old) 0 }
-    ensures back { back.new ≡ replicate (length back.old) (pos 0) }
-    ensures reasons { reasons.new ≡ replicate (length reasons.old) (pos 0) }
+pub fn clear_run(state: &mut StateTables)
+    ensures zeros { Zeros state.old state.new }
+    ensures same { SameTables state.old state.new × SameLengths state.old state.new }
 {
-    copying::fill(substitution, 0);
-    copying::fill_marks(marks, 0);
-    copying::fill(back, 0);
-    copying::fill(reasons, 0);
+    state.substitution.fill(0);
+    state.marks.fill(0);
+    state.way_back.fill(0);
+    state.reasons.fill(0);
 }

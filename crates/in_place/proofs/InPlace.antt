@@ -1,110 +1,30 @@
 -- A row of a flat table that gains other rows of the same table, in place: what is read on the way, and what the table is afterwards.
-use mathlib.Core.Path.{◌≡◌, refl, sym, ap, ◌∙◌}
-use mathlib.Core.Bool.{Bool, true, false}
-use mathlib.Core.Logic.{◌⊎◌, inl, inr, ⊎_elim}
+use mathlib.Core.Path.{◌≡◌, sym, ap, ◌∙◌}
+use mathlib.Core.Bool.{true}
 use mathlib.Core.List.{List, [], ◌∷◌, ◌++◌}
-use Prim.Native.Nat.{ℕ, ◌+◌, ◌-◌, ◌*◌, ◌≤◌, ◌<◌}
-use native.Mathlib.Nat.{add-zero, zero-add, suc-add, add_assoc, eq-or-lt_of_le}
+use Prim.Native.Nat.{ℕ, ◌+◌, ◌*◌, ◌≤◌, ◌<◌}
+use native.Mathlib.Nat.{zero-add, suc-add}
 use native.Mathlib.Omega.{arith}
-use borrow.Author.Tests.{leb-true, leb-false}
-use lib.Dec.{leb}
-use lib.ListN.{length, get_or, take, drop, set, length-take, length-drop, take-append-drop}
-use lib.Seq.{length-take-le, take_at, drop_at, drop-drop, get_or-take, get_or-drop, get_or-set_other, set-append_left}
-use lib.IntN.{ℤ, pos, neg_ℤ, nat_abs, ◌+ℤ◌, ◌-ℤ◌, ◌*ℤ◌}
+use lib.ListN.{length, get_or, take, drop, set, take-append-drop}
+use lib.Seq.{length-take-le, take_at, drop_at, get_or-take, get_or-drop, get_or-set_other, set-append_left}
+use lib.IntN.{ℤ, pos, neg_ℤ, nat_abs}
 use Rattle.whole.specs.Limit.{W}
-use Rattle.whole.proofs.Reify.{reify, ring}
 use Rattle.rows.specs.Row.{at, less, gathered, all_within}
 use Rattle.rows.specs.Table.{rows_of, row_at, set_row}
 use Rattle.rows.proofs.Lists.{row-end}
-use Rattle.rows.proofs.Loops.{less_none, less-more}
 use Rattle.rows.proofs.Algebra.{length-less}
 use Rattle.rows.proofs.TableLaws.{length-row_at, length-set_row, row_of, rows_of-set_row}
-use Rattle.rows.proofs.Sweep.{Swept, swept-read, swept_step}
 use Rattle.tables.proofs.Rowed.{rows_from, rows_start}
 use Rattle.tables.proofs.Multiples.{less_zero, within-row, gathered_none, gathered-more, Sum, sum-start, sum_past, sum_more}
 
--- ---- a number of a row, and where two rows of a table lie
+-- ---- a number of a row
 pub row-at : (w r : ℕ) (t : List ℤ) (j : ℕ) → j < w → at (row_at w r t) j ≡ at t (r * w + j)
 row-at w r t j h = get_or-take w (drop (r * w) t) j (pos 0) h ∙ get_or-drop (r * w) t j (pos 0)
 
-apart : (w k i : ℕ) → (i ≡ k → ⊥) → (i * w + w ≤ k * w) ⊎ (k * w + w ≤ i * w)
-apart w k i n = go (leb k i) refl
-  where
-    go : (b : Bool) → leb k i ≡ b → (i * w + w ≤ k * w) ⊎ (k * w + w ≤ i * w)
-    go true e = ⊎_elim (λ same. absurd (n (sym same))) (λ h. inr (row-end i w k h)) (eq-or-lt_of_le (leb-true k i e))
-    go false e = inl (row-end k w i (leb-false k i e))
-
--- a number of the first of two lists put together
-front : (p q : List ℤ) (n m : ℕ) → length p ≡ n → m < n → at (p ++ q) m ≡ at p m
-front p q n m e h = sym (get_or-take n (p ++ q) m (pos 0) h) ∙ ap (λ (l : List ℤ). at l m) (take_at p q n e)
-
--- a number put into the second
+-- a number put into the second of two lists put together
 set-behind : (p q : List ℤ) (n : ℕ) (z : ℤ) → set (p ++ q) (length p + n) z ≡ p ++ set q n z
 set-behind [] q n z = rw (zero-add n)
 set-behind (a ∷ p) q n z = rw (suc-add (length p) n) (ap (λ (l : List ℤ). a ∷ l) (set-behind p q n z))
-
--- ---- a sweep: what is ahead is as it was, and what is done is the goal's
-swept-ahead : {l₀ l goal rest : List ℤ} {i : ℕ} (m : ℕ) → i ≤ m → Swept l₀ l goal i rest → at l m ≡ at l₀ m
-swept-ahead {l₀} {l} {goal} {rest} {i} m h s =
-    let sum : i + (m - i) ≡ m = omega arith in
-    rw sum at (sym (get_or-drop i l (m - i) (pos 0)) ∙ ap (λ (x : List ℤ). at x (m - i)) s.ahead ∙ get_or-drop i l₀ (m - i) (pos 0))
-
-swept-done : {l₀ l goal rest : List ℤ} {i : ℕ} (m : ℕ) → m < i → i ≤ length l → Swept l₀ l goal i rest → at l m ≡ at goal m
-swept-done {l₀} {l} {goal} {rest} {i} m h b s =
-    sym (get_or-take i l m (pos 0) h) ∙ sym (front (take i l) rest i m (length-take-le i l b) h) ∙ ap (λ (x : List ℤ). at x m) s.done
-
--- ---- row k gains c times row i: its first j columns have, the others are as they were
-module _ (w k i : ℕ) (c : ℤ) (t₀ : List ℤ) where
-  abbrev pub gained : List ℤ
-  gained = less (row_at w k t₀) (neg_ℤ c) (row_at w i t₀)
-
-  abbrev pub Added : List ℤ → ℕ → Type 0
-  Added t j =
-      Swept t₀ t (set_row w k gained t₀) (k * w + j) (less (drop j (row_at w k t₀)) (neg_ℤ c) (drop j (row_at w i t₀)) ++ drop w (drop (k * w) t₀))
-
-  pub added-start : Added t₀ 0
-  added-start = record { len = refl; ahead = refl; done = rw (add-zero (k * w)) }
-
-  module _ (h : k * w + w ≤ length t₀) (l : i * w + w ≤ length t₀) {t : List ℤ} (j : ℕ) (s : Added t j) where
-    pub added-own : j < w → at t (k * w + j) ≡ at (row_at w k t₀) j
-    added-own b = swept-read (pos 0) s ∙ sym (row-at w k t₀ j b)
-
-    -- row i lies before row k or behind it
-    pub added-other : j < w → (i ≡ k → ⊥) → at t (i * w + j) ≡ at (row_at w i t₀) j
-    added-other b n = ⊎_elim before behind (apart w k i n) ∙ sym (row-at w i t₀ j b)
-      where
-        before : i * w + w ≤ k * w → at t (i * w + j) ≡ at t₀ (i * w + j)
-        before o =
-            swept-done (i * w + j) (omega arith) (omega (arith, s.len)) s
-            ∙ front (take (k * w) t₀) (gained ++ drop w (drop (k * w) t₀)) (k * w) (i * w + j) (length-take-le (k * w) t₀ (omega arith)) (omega arith)
-            ∙ get_or-take (k * w) t₀ (i * w + j) (pos 0) (omega arith)
-
-        behind : k * w + w ≤ i * w → at t (i * w + j) ≡ at t₀ (i * w + j)
-        behind o = swept-ahead (i * w + j) (omega arith) s
-
-    long-own : length (row_at w k t₀) ≡ w
-    long-own = simp (length-take, length-drop) (omega arith)
-
-    long-other : length (row_at w i t₀) ≡ w
-    long-other = simp (length-take, length-drop) (omega arith)
-
-    pub added-step : j < w → Added (set t (k * w + j) (at (row_at w k t₀) j +ℤ c *ℤ at (row_at w i t₀) j)) (j + 1)
-    added-step b =
-        let x = at (row_at w k t₀) j in
-        let y = at (row_at w i t₀) j in
-        let value : x -ℤ neg_ℤ c *ℤ y ≡ x +ℤ c *ℤ y = ring (x ∷ c ∷ y ∷ []) (search reify) (search reify) refl in
-        let more = rw value at (less-more (neg_ℤ c) (row_at w k t₀) (row_at w i t₀) j (omega (arith, long-own)) (omega (arith, long-other))) in
-        rw (← add_assoc (k * w) j 1)
-        (swept_step (x +ℤ c *ℤ y) _ (omega (arith, s.len)) (ap (λ (m : List ℤ). m ++ drop w (drop (k * w) t₀)) more) s)
-
-    -- past the last column the rows behind row k are what is left
-    pub added-end : w ≤ j → j ≤ w → t ≡ set_row w k gained t₀
-    added-end b b' =
-        let none = less_none (neg_ℤ c) (row_at w k t₀) (row_at w i t₀) j (omega (arith, long-own)) in
-        let same : w ≡ j = omega arith in
-        let left : drop w (drop (k * w) t₀) ≡ drop (k * w + j) t =
-        drop-drop w (k * w) t₀ ∙ ap (λ (m : ℕ). drop (k * w + m) t₀) same ∙ sym s.ahead in
-        sym (take-append-drop (k * w + j) t) ∙ ap (λ (m : List ℤ). take (k * w + j) t ++ m) (sym left) ∙ (rw none at s.done)
 
 -- ---- row k of a table of m rows replaced
 module _ (w m k : ℕ) (t : List ℤ) (h : k < m) (e : length t ≡ m * w) where

@@ -14,21 +14,31 @@ fn more_product(a: i64, c: i64, b: i64) -> i64
     a + c * b
 }
 
-// Row k of the table gains c times row i, another row of it. Two parts of one table cannot be lent at once, so it goes by index.
-// Sums of up to 33 products pass through here.
+// The row gains c times another.
+fn gain(row: &mut [i64], other: &[i64], c: i64)
+    requires { (length other.now ≡ length row.old) × (nat_abs c ≤ W) × (bounded (2 ^ 62) row.old ≡ true) × (all_within other.now ≡ true) }
+    ensures { row.new ≡ less row.old (neg_ℤ c) other.now }
+{
+    for (j, x) in row.iter_mut().enumerate() {
+        *x = more_product(*x, c, other[j]);
+    }
+}
+
+// Row k of the table gains c times row i, another row of it: the table is split in front of the later of the two, so that both are
+// lent at once. Sums of up to 33 products pass through here.
 fn add_row(table: &mut [i64], w: usize, k: usize, i: usize, c: i64)
     requires w_in_bounds { (k * w + w ≤ length table.old) × (i * w + w ≤ length table.old) × (i ≡ k → ⊥) }
     requires c_bound { (nat_abs c ≤ W) × (bounded (2 ^ 62) (row_at w k table.old) ≡ true) × (all_within (row_at w i table.old) ≡ true) }
     ensures { table.new ≡ set_row w k (less (row_at w k table.old) (neg_ℤ c) (row_at w i table.old)) table.old }
 {
-    let a = k * w;
-    let b = i * w;
-    let mut j = 0;
-    while j < w {
-        let x = table[a + j];
-        let y = table[b + j];
-        table[a + j] = more_product(x, c, y);
-        j += 1;
+    let own = k * w;
+    let another = i * w;
+    if i < k {
+        let (before, behind) = table.split_at_mut(own);
+        gain(&mut behind[..w], &before[another..another + w], c);
+    } else {
+        let (before, behind) = table.split_at_mut(another);
+        gain(&mut before[own..own + w], &behind[..w], c);
     }
 }
 
@@ -38,12 +48,9 @@ pub fn gather_in(table: &mut [i64], w: usize, k: usize, cs: &[i64])
     requires { (length table.old ≡ length cs.now * w) × (length cs.now ≤ 33) × (k < length cs.now) × (at cs.now k ≡ pos 0) × (all_within cs.now ≡ true) × (all_within table.old ≡ true) }
     ensures { table.new ≡ set_row w k (gathered (row_at w k table.old) cs.now (rows_of w (length cs.now) table.old)) table.old }
 {
-    let mut r = 0;
-    while r < cs.len() {
-        let often = cs[r];
-        if often != 0 {
-            add_row(table, w, k, r, often);
+    for (r, often) in cs.iter().enumerate() {
+        if *often != 0 {
+            add_row(table, w, k, r, *often);
         }
-        r += 1;
     }
 }

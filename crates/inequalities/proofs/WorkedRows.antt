@@ -8,6 +8,7 @@ use borrow.Author.Tests.{ne_eqb}
 use lib.Dec.{eqb}
 use lib.ListN.{length, set, take, replicate, length-set, length-replicate}
 use lib.IntN.{ℤ, pos}
+use Rattle.std.specs.Prelude.{Ok}
 use Rattle.rows.specs.Row.{at, zeros, all_within}
 use Rattle.rows.specs.Table.{rows_of, row_at, set_row}
 use Rattle.rows.proofs.Sweep.{Swept, swept-start, swept_step, swept-end}
@@ -32,10 +33,10 @@ shown fits row x = elim fits [ true ↦ worked row x | false ↦ large ]
 
 shown-worked : (fits : Bool) (row r : List ℤ) (x y : ℕ) → worked r y ≡ shown fits row x → (fits ≡ true) × (r ≡ row) × (y ≡ x)
 shown-worked true row r x y e = (refl, cc, cc)
-shown-worked false row r x y e = let z : ◌≡◌ {A = ℕ} 0 1 = cc in absurd (omega arith)
+shown-worked false row r x y e = absurd (cc)
 
 shown-large : (fits : Bool) (row : List ℤ) (x : ℕ) → large ≡ shown fits row x → fits ≡ false
-shown-large true row x e = let z : ◌≡◌ {A = ℕ} 0 1 = cc in absurd (omega arith)
+shown-large true row x e = absurd (cc)
 shown-large false row x e = refl
 
 module _ (n m : ℕ) (s : State) (row : List ℤ) where
@@ -115,18 +116,16 @@ module _ (n m k : ℕ) (s : State) (t : List ℤ) where
         }
 
     -- the next row is too large: its number is the answer, whatever the tables hold
-    pub done-large : (tightened' : List ℤ) (used' : List ℕ) → i < k → large ≡ row_worked n m s (row_at (suc n) i t)
-        → rows_shown n k (i + 1) tightened' used' ≡ rows_worked n m s rows
-    done-large tightened' used' h e =
+    pub done-large : i < k → large ≡ row_worked n m s (row_at (suc n) i t) → first_large (i + 1) ≡ rows_worked n m s rows
+    done-large h e =
         let this = row_at (suc n) i t in
         let a = sums n s.substitution this in
         let out = shown-large (all_within a) (tightened_row n s this) (used_by m s a) e in
         let found = passed_here beyond (suc n) k t i h (ap not out) d.fits ∙ sym bad-is in
-        told-large (all_worked (rows_of (suc n) k tightened') used') (i + 1) (λ z. omega arith)
-        ∙ sym (told-large goal (i + 1) (λ z. omega arith)) ∙ ap (told goal) found
+        sym (told-large goal (i + 1) (λ z. omega arith)) ∙ ap (told goal) found
 
     -- no row is left
-    pub done_end : k ≤ i → length used₀ ≡ k → rows_shown n k 0 tightened used ≡ rows_worked n m s rows
+    pub done_end : k ≤ i → length used₀ ≡ k → rows_shown n k (Ok tt) tightened used ≡ rows_worked n m s rows
     done_end h l =
         let none = rows_none (suc n) k i t h in
         let tables = swept-end (omega (arith, length-rows_of (suc n) k tightened)) (ap made none) d.sweep in

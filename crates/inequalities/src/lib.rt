@@ -5,77 +5,53 @@ ghost use Rattle.std.specs.Prelude.{◌≡◌, true, suc, ◌≤◌, ◌*◌, le
 ghost use Rattle.rows.specs.Row.{all_within};
 ghost use Rattle.rows.specs.Table.{rows_of};
 ghost use Rattle.inequalities.specs.Worked.{row_shown, row_worked, rows_shown, rows_worked};
-ghost use Rattle.used.specs.Shown.{shown_state};
+ghost use Rattle.used.specs.Shown.{state_in};
+ghost use Rattle.rules.specs.Lent.{SameRows};
 
-// The set that an inequality used, or that one of its sums is beyond the limit.
-#[derive(Clone, Copy)]
-pub enum Sums {
-    Used(u64),
-    TooFar,
-}
+use rules::{RowTables, StateTables};
 
-// One inequality worked into its row of the tightened table.
+// One inequality worked into its row of the tightened table: the set that it used, or nothing where one of its sums is beyond the limit.
 fn work_row(
     row: &mut [i64],
     inequality: &[i64],
-    substitution: &[i64],
-    marks: &[u8],
-    reasons: &[i64],
+    state: &StateTables,
     n: usize,
     m: usize,
-) -> Sums
-    requires row_len { (length row.old ≡ suc n) × (length inequality.now ≡ suc n) × (length substitution.now ≡ n * suc n) × (length marks.now ≡ n) × (length reasons.now ≡ n * suc m) }
-    requires n_bound { (n ≤ 32) × (m ≤ 32) × (all_within inequality.now ≡ true) × (all_within substitution.now ≡ true) }
-    ensures { row_shown result row.new ≡ row_worked n m (shown_state n m substitution.now marks.now reasons.now) inequality.now }
+) -> Option<u64>
+    requires row_len { (length row.old ≡ suc n) × (length inequality.now ≡ suc n) × (length state.now.substitution.now ≡ n * suc n) × (length state.now.marks.now ≡ n) × (length state.now.reasons.now ≡ n * suc m) }
+    requires n_bound { (n ≤ 32) × (m ≤ 32) × (all_within inequality.now ≡ true) × (all_within state.now.substitution.now ≡ true) }
+    ensures { row_shown result row.new ≡ row_worked n m (state_in n m state.now) inequality.now }
 {
-    tightening::sums_into(row, inequality, substitution, n);
+    tightening::sums_into(row, inequality, state.substitution, n);
     if !rows::all_within(row) {
-        return Sums::TooFar;
+        return None;
     }
-    let set = used::used_by(marks, reasons, row, n, m);
-    tightening::only_open(row, marks);
+    let set = used::used_by(state.marks, state.reasons, row, n, m);
+    tightening::only_open(row, state.marks);
     tightening::tighten(row, n);
-    Sums::Used(set)
+    Some(set)
 }
 
-// All inequalities worked; the number of the first with a sum beyond the limit, or 0.
+// All inequalities worked. The error is the number of the first with a sum beyond the limit, counting from 1.
 pub fn work_rows(
-    tightened: &mut [i64],
-    used: &mut [u64],
+    rows: &mut RowTables,
     inequalities: &[i64],
-    substitution: &[i64],
-    marks: &[u8],
-    reasons: &[i64],
+    state: &StateTables,
     n: usize,
     m: usize,
-) -> usize
-    requires tightened_len { (length tightened.old ≡ length used.old * suc n) × (length inequalities.now ≡ length used.old * suc n) × (length substitution.now ≡ n * suc n) × (length marks.now ≡ n) × (length reasons.now ≡ n * suc m) }
-    requires n_bound { (n ≤ 32) × (m ≤ 32) × (length used.old ≤ 64) × (all_within inequalities.now ≡ true) × (all_within substitution.now ≡ true) }
-    ensures { rows_shown n (length used.old) result tightened.new used.new ≡ rows_worked n m (shown_state n m substitution.now marks.now reasons.now) (rows_of (suc n) (length used.old) inequalities.now) }
+) -> Result<(), usize>
+    requires tightened_len { (length rows.old.tightened.now ≡ length rows.old.used.now * suc n) × (length inequalities.now ≡ length rows.old.used.now * suc n) × (length state.now.substitution.now ≡ n * suc n) × (length state.now.marks.now ≡ n) × (length state.now.reasons.now ≡ n * suc m) }
+    requires n_bound { (n ≤ 32) × (m ≤ 32) × (length rows.old.used.now ≤ 64) × (all_within inequalities.now ≡ true) × (all_within state.now.substitution.now ≡ true) }
+    ensures same { SameRows rows.old rows.new }
+    ensures worked { rows_shown n (length rows.old.used.now) result rows.new.tightened.now rows.new.used.now ≡ rows_worked n m (state_in n m state.now) (rows_of (suc n) (length rows.old.used.now) inequalities.now) }
 {
     let w = n + 1;
-    let mut i = 0;
-    while i < used.len() {
+    let tightened = &mut *rows.tightened;
+    let used = &mut *rows.used;
+    for (i, set) in used.iter_mut().enumerate() {
         let a = i * w;
         let e = a + w;
-        let found = work_row(
-            &mut tightened[a..e],
-            &inequalities[a..e],
-            substitution,
-            marks,
-            reasons,
-            n,
-            m,
-        );
-        match found {
-            Sums::Used(bits) => {
-                used[i] = bits;
-            }
-            Sums::TooFar => {
-                return i + 1;
-            }
-        }
-        i += 1;
+        *set = work_row(&mut tightened[a..e], &inequalities[a..e], state, n, m).ok_or(i + 1)?;
     }
-    0
+    Ok(())
 }

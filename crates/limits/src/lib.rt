@@ -5,85 +5,62 @@ ghost use Rattle.std.specs.Prelude.{◌≡◌, ◌≤◌};
 ghost use Rattle.rules.specs.Outcomes.{in_range};
 ghost use Rattle.limits.specs.Checked.{lengths_right, entries_checked, table_checked};
 
-use rules::Refusal;
-
-// Whether all entries are within the limit, or the refusal of the first that is not.
-#[derive(Clone, Copy)]
-pub enum Entries {
-    Good,
-    Bad(Refusal),
-}
+use rules::{Refusal, RowTables, StateTables, System, Table};
 
 // Whether n, m and k are in range.
+#[tactic(auto, unfolding(rules::specs::Outcomes::in_range))]
 pub fn in_range(n: usize, m: usize, k: usize) -> bool
     ensures { result ≡ in_range n m k }
 {
-    if n < 1 {
-        return false;
-    }
-    if 32 < n {
-        return false;
-    }
-    if 32 < m {
-        return false;
-    }
-    k <= 64
+    1 <= n && n <= 32 && m <= 32 && k <= 64
 }
 
-// The entries of the table with this number, whose rows have width w.
-pub fn check_table(w: usize, number: usize, table: &[i64]) -> Entries
+// Whether all entries of this table, whose rows have width w, are within the limit; else the refusal of the first that is not.
+pub fn check_table(w: usize, which: Table, table: &[i64]) -> Result<(), Refusal>
     requires { (1 ≤ w) × (w ≤ 33) }
-    ensures { result ≡ table_checked w number table.now }
+    ensures { result ≡ table_checked w which table.now }
 {
-    let i = rows::first_beyond(table);
-    if i < table.len() {
-        return Entries::Bad(Refusal::BadEntry {
-            table: number,
+    match rows::first_beyond(table) {
+        Some(i) => Err(Refusal::BadEntry {
+            table: which,
             row: i / w + 1,
             column: i % w + 1,
-        });
+        }),
+        None => Ok(()),
     }
-    Entries::Good
 }
 
 // Whether the nine tables have their lengths.
 pub fn right_lengths(
-    n: usize,
-    m: usize,
-    k: usize,
-    equations: usize,
-    inequalities: usize,
-    substitution: usize,
-    marks: usize,
-    back: usize,
-    reasons: usize,
-    conflict: usize,
-    tightened: usize,
-    used: usize,
+    system: System,
+    equations: &[i64],
+    inequalities: &[i64],
+    state: &StateTables,
+    conflict: &[i64],
+    rows: &RowTables,
 ) -> bool
-    requires { (n ≤ 32) × (m ≤ 32) × (k ≤ 64) }
-    ensures { result ≡ lengths_right n m k equations inequalities substitution marks back reasons conflict tightened used }
+    requires { (system.n ≤ 32) × (system.m ≤ 32) × (system.k ≤ 64) }
+    ensures { result ≡ lengths_right system.n system.m system.k equations.now inequalities.now state.now conflict.now rows.now }
 {
+    let System { n, m, k } = system;
     let w = n + 1;
-    let mut right = equations == m * w;
-    right = right & (inequalities == k * w);
-    right = right & (substitution == n * w);
-    right = right & (marks == n);
-    right = right & (back == n * w);
-    right = right & (reasons == n * (m + 1));
-    right = right & (conflict == m + 1);
-    right = right & (tightened == k * w);
-    right & (used == k)
+    if equations.len() != m * w || inequalities.len() != k * w {
+        return false;
+    }
+    state.substitution.len() == n * w
+        && state.marks.len() == n
+        && state.way_back.len() == n * w
+        && state.reasons.len() == n * (m + 1)
+        && conflict.len() == m + 1
+        && rows.tightened.len() == k * w
+        && rows.used.len() == k
 }
 
 // Refusal 3: the whole table of the equations before that of the inequalities.
-pub fn check_entries(n: usize, equations: &[i64], inequalities: &[i64]) -> Entries
+pub fn check_entries(n: usize, equations: &[i64], inequalities: &[i64]) -> Result<(), Refusal>
     requires { n ≤ 32 }
     ensures { result ≡ entries_checked n equations.now inequalities.now }
 {
-    let first = check_table(n + 1, 0, equations);
-    match first {
-        Entries::Bad(refusal) => Entries::Bad(refusal),
-        Entries::Good => check_table(n + 1, 1, inequalities),
-    }
+    check_table(n + 1, Table::Equations, equations)?;
+    check_table(n + 1, Table::Inequalities, inequalities)
 }

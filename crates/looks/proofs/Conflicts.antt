@@ -1,34 +1,25 @@
 -- What the two looks for a conflict test: a row of zeros from a column on, a sum above 0, and the tests put together.
-use mathlib.Core.Path.{◌≡◌, refl, sym, ◌∙◌}
+use mathlib.Core.Path.{◌≡◌, refl, sym, ap, ◌∙◌}
 use mathlib.Core.Bool.{Bool, true, false, not, ◌&&◌, and-false, and-true}
 use mathlib.Core.List.{List, [], ◌∷◌}
-use Prim.Native.Nat.{ℕ, zero, suc, ◌+◌, ◌≤◌, ◌<◌}
-use native.Mathlib.Nat.{pos_of_ne-zero, zero-lt-suc}
+use Prim.Native.Nat.{ℕ}
+use native.Mathlib.Nat.{pos_of_ne-zero}
 use native.Mathlib.Omega.{arith}
-use borrow.Author.Tests.{eqb-true, eqb-false, ne_eqb, lt-ltb, lt-leb}
+use borrow.Author.Tests.{eqb-true, eqb-false, ne_eqb}
 use lib.Dec.{eqb}
-use lib.ListN.{length, take, drop, drop_of_length-le}
-use lib.IntN.{ℤ, pos, negsuc, nat_abs, ◌+ℤ◌}
-use lib.Signed.{le_z}
+use lib.ListN.{take}
+use lib.IntN.{ℤ, nat_abs, ◌+ℤ◌}
+use Rattle.std.specs.List.{list_all}
 use Rattle.whole.specs.Gcd.{gcd}
-use Rattle.whole.proofs.Integers.{nat_abs-zero}
 use Rattle.whole.proofs.GcdLaws.{gcd-zero-l, gcd-nonzero-l}
 use Rattle.rows.specs.Row.{at, gcd_of, opposite, all_zero}
-use Rattle.rows.proofs.Lists.{tail_at}
 use Rattle.rules.specs.Inequalities.{positive, alone, against}
 
--- ---- a row of zeros, from column i on
-pub zeros-none : (row : List ℤ) (i : ℕ) → length row ≤ i → all_zero (drop i row) ≡ true
+-- ---- a row of zeros
+pub zeros-all : (row : List ℤ) → list_all (λ z. eqb (nat_abs z) 0) row ≡ all_zero row
 unfolding all_zero
-zeros-none row i h = rw (drop_of_length-le row h)
-
-pub zeros-here : (row : List ℤ) (i : ℕ) → i < length row → (at row i ≡ pos 0 → ⊥) → all_zero (drop i row) ≡ false
-unfolding all_zero
-zeros-here row i h n = rw (tail_at row i (pos 0) h, ne_eqb (nat_abs (at row i)) 0 (λ e. n (nat_abs-zero (at row i) e)))
-
-pub zeros-later : (row : List ℤ) (i : ℕ) → i < length row → at row i ≡ pos 0 → all_zero (drop i row) ≡ all_zero (drop (i + 1) row)
-unfolding all_zero
-zeros-later row i h e = rw (tail_at row i (pos 0) h, e)
+zeros-all [] = refl
+zeros-all (a ∷ row) = ap (λ (b : Bool). eqb (nat_abs a) 0 && b) (zeros-all row)
 
 -- those rows are the ones with greatest common divisor 0
 zero-gcd : (row : List ℤ) → all_zero row ≡ eqb (gcd_of row) 0
@@ -41,12 +32,6 @@ zero-gcd (a ∷ row) = go (eqb (nat_abs a) 0) refl (zero-gcd row)
     go false e h =
         let k = gcd-nonzero-l (nat_abs a) (gcd_of row) (pos_of_ne-zero (eqb-false (nat_abs a) 0 e)) in
         sym (ne_eqb (gcd (nat_abs a) (gcd_of row)) 0 (λ z. omega arith))
-
--- ---- the code asks whether a number is at most 0, the definition whether it is above
-pub above : (z : ℤ) → positive z ≡ not (le_z z (pos 0))
-above (pos zero) = refl
-above (pos (suc n)) = rw (lt-ltb 0 (suc n) (zero-lt-suc n), lt-leb (suc n) 0 (zero-lt-suc n))
-above (negsuc n) = refl
 
 -- ---- the tests put together
 pub alone-not : (n : ℕ) (row : List ℤ) → all_zero (take n row) ≡ false → alone n row ≡ false

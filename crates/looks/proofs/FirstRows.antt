@@ -2,8 +2,8 @@
 use mathlib.Core.Path.{◌≡◌, refl, sym, ap, ◌∙◌}
 use mathlib.Core.Bool.{Bool, true, false}
 use mathlib.Core.List.{List, [], ◌∷◌, map}
-use Prim.Native.Nat.{ℕ, zero, suc, ◌+◌, ◌-◌, ◌*◌, ◌≤◌, ◌<◌, zero-le}
-use native.Mathlib.Nat.{mul_comm, mul-sub}
+use Prim.Native.Nat.{ℕ, zero, suc, ◌+◌, ◌-◌, ◌*◌, ◌/◌, ◌≤◌, ◌<◌, zero-le}
+use native.Mathlib.Nat.{le-div_iff_mul-le, add-mul-div_right}
 use native.Mathlib.Numerals.{add-one}
 use native.Mathlib.Omega.{arith}
 use borrow.Author.Tests.{eq-eqb, ne_eqb}
@@ -14,11 +14,12 @@ use lib.IntN.{ℤ}
 use Rattle.whole.specs.Limit.{W}
 use Rattle.rows.specs.Row.{all_within}
 use Rattle.rows.specs.Table.{rows_of, row_at}
-use Rattle.rows.proofs.Lists.{row_next}
 use Rattle.rows.proofs.Bounded.{bounded-drop}
 use Rattle.rows.proofs.TableLaws.{length-rows_of}
 use Rattle.tables.proofs.Rowed.{rows_from, rows_start, rows_more}
 use Rattle.rules.specs.Inequalities.{first_row, against, first_pair}
+use Rattle.std.specs.Prelude.{Some, None}
+use Rattle.looks.specs.Found.{row_found, pair_found}
 
 -- the number of a row found behind the first i rows: 0 stays 0
 abbrev pub past : ℕ → ℕ → ℕ
@@ -42,27 +43,28 @@ pub rows_none : (w count i : ℕ) (t : List ℤ) → count ≤ i → rows_from w
 unfolding rows_of
 rows_none w count i t h = let none : count - i ≡ 0 = omega arith in rw none
 
--- the rows behind it: they are lent as what is left of the table
-module _ (n count i : ℕ) (t : List ℤ) where
+-- the rows behind row i: they are lent as what is left of the table
+module _ (n i : ℕ) (t : List ℤ) where
   abbrev rest_lent : List ℤ
-  rest_lent = take (length t - (i * (n + 1) + (n + 1))) (drop (i * (n + 1) + (n + 1)) t)
+  rest_lent = take (length t - (i + 1) * (n + 1)) (drop ((i + 1) * (n + 1)) t)
 
   rest-lent : rest_lent ≡ drop ((i + 1) * suc n) t
-  rest-lent =
-      let e : i * (n + 1) + (n + 1) ≡ (i + 1) * suc n = rw (add-one n) (sym (row_next (suc n) i)) in
-      rw e (take_all (length t - (i + 1) * suc n) (drop ((i + 1) * suc n) t) (rw (length-drop ((i + 1) * suc n) t) (omega arith)))
-
-  pub rest-long : i < count → length t ≡ count * suc n → length rest_lent ≡ (count - i - 1) * suc n
-  rest-long h e =
-      let c : count - i - 1 ≡ count - (i + 1) = omega arith in
-      ap length rest-lent ∙ length-drop ((i + 1) * suc n) t ∙ ap (λ (k : ℕ). k - (i + 1) * suc n) e
-      ∙ rw (c, mul_comm (count - (i + 1)) (suc n), mul-sub (suc n) count (i + 1), mul_comm (suc n) count, mul_comm (suc n) (i + 1))
+  rest-lent = rw (add-one n) (take_all (length t - (i + 1) * suc n) (drop ((i + 1) * suc n) t) (rw (length-drop ((i + 1) * suc n) t) (omega arith)))
 
   pub rest-within : all_within t ≡ true → all_within rest_lent ≡ true
   rest-within e = ap all_within rest-lent ∙ bounded-drop W ((i + 1) * suc n) t e
 
-  pub rest-rows : rows_of (suc n) (count - i - 1) rest_lent ≡ rows_from (suc n) count (i + 1) t
-  rest-rows = let c : count - i - 1 ≡ count - (i + 1) = omega arith in rw (c, rest-lent)
+  rest-count : i < length t / suc n → length (drop ((i + 1) * suc n) t) / suc n ≡ length t / suc n - (i + 1)
+  rest-count h =
+      let fits : (i + 1) * suc n ≤ length t = (le-div_iff_mul-le {k = suc n} (omega arith)).0 (omega arith) in
+      let more : (length t - (i + 1) * suc n + (i + 1) * suc n) / suc n ≡ (length t - (i + 1) * suc n) / suc n + (i + 1) =
+      add-mul-div_right (length t - (i + 1) * suc n) (i + 1) (omega arith) in
+      let same : length t - (i + 1) * suc n + (i + 1) * suc n ≡ length t = omega arith in
+      let e : length t / suc n ≡ (length t - (i + 1) * suc n) / suc n + (i + 1) = rw same at more in
+      rw (length-drop ((i + 1) * suc n) t) (omega arith)
+
+  pub rest-rows : i < length t / suc n → rows_of (suc n) (length rest_lent / suc n) rest_lent ≡ rows_from (suc n) (length t / suc n) (i + 1) t
+  rest-rows h = rw (rest-lent, rest-count h)
 
 -- ---- one row passes, or the rows behind it decide
 first-here : (test : List ℤ → Bool) (row : List ℤ) (rows : List (List ℤ)) → test row ≡ true → first_row test (row ∷ rows) ≡ 1
@@ -118,6 +120,21 @@ module _ (test : List ℤ → Bool) (w count : ℕ) (t : List ℤ) where
   pub passed_none : (i : ℕ) → count ≤ i → Passed i → 0 ≡ whole
   unfolding first_row
   passed_none i h s = ap (λ (rows : List (List ℤ)). past i (first_row test rows)) (sym (rows_none w count i t h)) ∙ s
+
+-- the answer of the loop
+pub found-some : (k : ℕ) {r : ℕ} → row_found k ≡ Some r → (k ≡ r) × (k ≡ 0 → ⊥)
+found-some zero e = absurd (cc)
+found-some (suc k) e = (cc, λ z. omega arith)
+
+pub found-none : (k : ℕ) → row_found k ≡ None → k ≡ 0
+found-none zero e = refl
+found-none (suc k) e = absurd (cc)
+
+pub found-pair : (i j : ℕ) → pair_found (i + 1, j) ≡ Some (record { i = i + 1; j = j })
+found-pair i j = rw (add-one i) refl
+
+pub found-row : (i : ℕ) {k : ℕ} → i + 1 ≡ k → Some (i + 1) ≡ row_found k
+found-row i e = rw (← e, add-one i) refl
 
 -- ---- pairs, the first of the rows being row i, from 0
 pair-more : (n i : ℕ) (row : List ℤ) (later : List (List ℤ)) (b : Bool) → let after = first_row (against n row) later in

@@ -16,15 +16,17 @@ use Rattle.matrix.specs.Reader.{is_start, is_return, is_dead, counts_fit, beyond
 use Rattle.matrix.specs.declared.Machine.{Machine}
 use Rattle.matrix.specs.declared.Phase.{Phase}
 use Rattle.matrix.specs.declared.Phase.TheVariants.{Start, Lead, Marked, Signed, Digits, Gap, Return, Comment, Dead}
-use Rattle.rules.specs.declared.Reading.{Reading}
-use Rattle.rules.specs.declared.Reading.TheVariants.{System, Unread}
+use Rattle.std.specs.Prelude.{Result, Err, Ok}
+use Rattle.rules.specs.declared.Refusal.{Refusal}
+use Rattle.rules.specs.declared.System.{System}
+use Rattle.rules.specs.Reading.{system_of}
 
 -- "n variables, 1..32; m equations, 0..32; k inequalities, 0..64", where a system is answered
-abbrev pub Counted : Reading → Type 0
-Counted (System n m k) = (1 ≤ n) × (n ≤ 32) × (m ≤ 32) × (k ≤ 64)
-Counted (Unread refusal) = Unit {0}
+abbrev pub Counted : Result System Refusal → Type 0
+Counted (Ok s) = (1 ≤ s.n) × (s.n ≤ 32) × (s.m ≤ 32) × (s.k ≤ 64)
+Counted (Err refusal) = Unit {0}
 
-pick : (t : Bool) (a b : Reading) → (t ≡ true → Counted a) → (t ≡ false → Counted b) → Counted (cond t a b)
+pick : (t : Bool) (a b : Result System Refusal) → (t ≡ true → Counted a) → (t ≡ false → Counted b) → Counted (cond t a b)
 pick true a b f g = f refl
 pick false a b f g = g refl
 
@@ -36,8 +38,8 @@ counted-counted m h =
     let high = leb-true m.columns 34 (and_right (leb 3 m.columns) (leb m.columns 34) columns) in
     pick
     (leb m.equations 32 && leb m.inequalities 64)
-    (System (m.columns - 2) m.equations m.inequalities)
-    (Unread OutOfRange)
+    (system_of (m.columns - 2) m.equations m.inequalities)
+    (Err OutOfRange)
     (λ t. (omega (arith, low), omega (arith, high), leb-true m.equations 32 (and_left (leb m.equations 32) (leb m.inequalities 64) t), leb-true m.inequalities 64 (and_right (leb m.equations 32) (leb m.inequalities 64) t)))
     (λ _. tt)
 
@@ -84,10 +86,10 @@ scan-counted m place [] = end-counted m place
 scan-counted m place (b ∷ text) =
     pick (is_dead (step m b).phase) _ _ (λ _. tt) (λ _. pick (beyond (step m b)) _ _ (λ _. tt) (λ _. scan-counted (step m b) (suc place) text))
 
-filled-counted : (r : Reading) (text : List ℕ) → Counted r → Counted (filled r text).reading
+filled-counted : (r : Result System Refusal) (text : List ℕ) → Counted r → Counted (filled r text).reading
 unfolding filled
-filled-counted (System n m k) text c = c
-filled-counted (Unread refusal) text c = c
+filled-counted (Ok s) text c = c
+filled-counted (Err refusal) text c = c
 
 choose : (t : Bool) (a b : Read) → Counted a.reading → Counted b.reading → Counted (cond t a b).reading
 choose true a b p q = p

@@ -3,9 +3,7 @@ use mathlib.Core.Path.{◌≡◌, refl, sym, ap, ◌∙◌}
 use mathlib.Core.List.{List, [], ◌∷◌, ◌++◌, append-nil, append_assoc}
 use Prim.Native.Nat.{ℕ}
 use Rattle.matrix.specs.Bytes.{space}
-use Rattle.matrix.specs.Poured.{Page, written}
 use Rattle.matrix.specs.Printed.{spaced_by}
-use Rattle.matrix.proofs.Joined.{join}
 
 module _ {A : Type 0} (show : A → List ℕ) where
   pub spaced-one : (a : A) → spaced_by show (a ∷ []) ≡ space ∷ show a
@@ -18,8 +16,3 @@ module _ {A : Type 0} (show : A → List ℕ) where
   spaced-append (x ∷ a) b =
       ap (λ (l : List ℕ). space ∷ l)
       (ap (λ (l : List ℕ). show x ++ l) (spaced-append a b) ∙ sym (append_assoc (show x) (spaced_by show a) (spaced_by show b)))
-
-  -- written one part after the other
-  pub spaced-join : (a b : List A) (p : Page ℕ) {q r : Page ℕ} → q ≡ written (spaced_by show a) p → r ≡ written (spaced_by show b) q
-      → r ≡ written (spaced_by show (a ++ b)) p
-  spaced-join a b p h k = rw (spaced-append a b) (join (spaced_by show a) (spaced_by show b) p h k)

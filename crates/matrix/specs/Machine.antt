@@ -170,15 +170,10 @@ minus_begins m = cond m.body (cond (eqb m.left 0) (dead m) (record {
 
 unfoldable pub on_minus : Phase → Machine → Machine
 unfolding minus_begins in_phase
-on_minus Start m = dead m
-on_minus Lead m = dead m
-on_minus Marked m = dead m
-on_minus Signed m = dead m
-on_minus Digits m = dead m
 on_minus Gap m = minus_begins m
-on_minus Return m = dead m
 on_minus Comment m = m
 on_minus Dead m = m
+on_minus _ m = dead m
 
 -- ---- a blank
 
@@ -242,26 +237,15 @@ on_line_feed Dead m = m
 unfoldable pub on_comment_mark : Phase → Machine → Machine
 unfolding in_phase
 on_comment_mark Start m = in_phase Comment m
-on_comment_mark Lead m = dead m
-on_comment_mark Marked m = dead m
-on_comment_mark Signed m = dead m
-on_comment_mark Digits m = dead m
-on_comment_mark Gap m = dead m
-on_comment_mark Return m = dead m
 on_comment_mark Comment m = m
 on_comment_mark Dead m = m
+on_comment_mark _ m = dead m
 
 unfoldable pub on_other : Phase → Machine → Machine
 unfolding in_phase
-on_other Start m = dead m
-on_other Lead m = dead m
-on_other Marked m = dead m
-on_other Signed m = dead m
-on_other Digits m = dead m
-on_other Gap m = dead m
-on_other Return m = dead m
 on_other Comment m = m
 on_other Dead m = m
+on_other _ m = dead m
 
 -- ---- one byte
 

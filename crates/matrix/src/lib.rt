@@ -14,7 +14,7 @@ pub enum Class {
 }
 
 // Where in its line the reader stands.
-#[derive(Clone, Copy)]
+#[derive(Clone, Copy, PartialEq, Eq)]
 pub enum Phase {
     // before a line's first byte
     Start,

@@ -1,94 +1,50 @@
 // What a byte can make of the machine.
 #![tactic(auto)]
 
-ghost use Rattle.std.specs.Prelude.{◌≡◌, cond, ◌-◌, ◌≤◌};
+ghost use Rattle.std.specs.Prelude.{◌≡◌, ◌≤◌};
 ghost use Rattle.matrix.specs.Machine.{in_phase, marked as marked_of, mark_of, first_number, next_number, after_minus, next_digit, minus_begins, line_ends};
 
 use matrix::{Machine, Phase};
 
 // The same but for the phase.
+#[tactic(auto, unfolding(matrix::specs::Machine::in_phase))]
 pub fn in_phase(m: Machine, phase: Phase) -> Machine
     ensures { result ≡ in_phase phase m }
 {
-    Machine {
-        phase,
-        body: m.body,
-        rows: m.rows,
-        columns: m.columns,
-        left: m.left,
-        digits: m.digits,
-        value: m.value,
-        negative: m.negative,
-        inequality: m.inequality,
-        equations: m.equations,
-        inequalities: m.inequalities,
-    }
+    Machine { phase, ..m }
 }
 
-// One less, but not below 0.
-fn less_one(x: usize) -> usize
-    ensures { result ≡ x - 1 }
-{
-    if x == 0 { 0 } else { x - 1 }
-}
-
-fn either(first: bool, a: usize, b: usize) -> usize
-    ensures { result ≡ cond first a b }
-{
-    if first { a } else { b }
-}
-
+#[tactic(auto, unfolding(matrix::specs::Machine::marked))]
 fn marked(m: Machine, inequality: bool) -> Machine
     requires { (m.equations ≤ 65536) × (m.inequalities ≤ 65536) }
     ensures { result ≡ marked_of inequality m }
 {
-    let rows = less_one(m.rows);
-    let left = less_one(m.columns);
-    if inequality {
-        return Machine {
-            phase: Phase::Marked,
-            body: m.body,
-            rows,
-            columns: m.columns,
-            left,
-            digits: m.digits,
-            value: m.value,
-            negative: m.negative,
-            inequality: true,
-            equations: m.equations,
-            inequalities: m.inequalities + 1,
-        };
-    }
     Machine {
         phase: Phase::Marked,
-        body: m.body,
-        rows,
-        columns: m.columns,
-        left,
-        digits: m.digits,
-        value: m.value,
-        negative: m.negative,
-        inequality: false,
-        equations: m.equations + 1,
-        inequalities: m.inequalities,
+        rows: m.rows.saturating_sub(1),
+        left: m.columns.saturating_sub(1),
+        inequality,
+        equations: m.equations + usize::from(!inequality),
+        inequalities: m.inequalities + usize::from(inequality),
+        ..m
     }
 }
 
 // A row begins by its mark: one byte, 0 or 1.
+#[tactic(auto, unfolding(matrix::specs::Machine::mark_of))]
 fn mark_of(m: Machine, d: usize) -> Machine
     requires { (m.equations ≤ 65536) × (m.inequalities ≤ 65536) }
     ensures { result ≡ mark_of d m }
 {
-    if d == 0 {
-        return marked(m, false);
+    match d {
+        0 => marked(m, false),
+        1 => marked(m, true),
+        _ => in_phase(m, Phase::Dead),
     }
-    if d == 1 {
-        return marked(m, true);
-    }
-    in_phase(m, Phase::Dead)
 }
 
 // The first number of a line: a count of the header, or a mark.
+#[tactic(auto, unfolding(matrix::specs::Machine::first_number, matrix::specs::Machine::first_count))]
 pub fn first_number(m: Machine, d: usize) -> Machine
     requires { (m.equations ≤ 65536) × (m.inequalities ≤ 65536) }
     ensures { result ≡ first_number d m }
@@ -101,60 +57,46 @@ pub fn first_number(m: Machine, d: usize) -> Machine
     }
     Machine {
         phase: Phase::Digits,
-        body: m.body,
-        rows: m.rows,
-        columns: m.columns,
         left: 1,
         digits: 1,
         value: d,
         negative: false,
-        inequality: m.inequality,
-        equations: m.equations,
-        inequalities: m.inequalities,
+        ..m
     }
 }
 
 // A further number begins by a digit.
+#[tactic(auto, unfolding(matrix::specs::Machine::next_number))]
 pub fn next_number(m: Machine, d: usize) -> Machine
     ensures { result ≡ next_number d m }
 {
     if m.left == 0 {
         return in_phase(m, Phase::Dead);
     }
-    let rows = either(m.body, m.rows, m.value);
     Machine {
         phase: Phase::Digits,
-        body: m.body,
-        rows,
-        columns: m.columns,
+        rows: if m.body { m.rows } else { m.value },
         left: m.left - 1,
         digits: 1,
         value: d,
         negative: false,
-        inequality: m.inequality,
-        equations: m.equations,
-        inequalities: m.inequalities,
+        ..m
     }
 }
 
+#[tactic(auto, unfolding(matrix::specs::Machine::after_minus))]
 pub fn after_minus(m: Machine, d: usize) -> Machine
     ensures { result ≡ after_minus d m }
 {
     Machine {
         phase: Phase::Digits,
-        body: m.body,
-        rows: m.rows,
-        columns: m.columns,
-        left: m.left,
         digits: 1,
         value: d,
-        negative: m.negative,
-        inequality: m.inequality,
-        equations: m.equations,
-        inequalities: m.inequalities,
+        ..m
     }
 }
 
+#[tactic(auto, unfolding(matrix::specs::Machine::next_digit))]
 pub fn next_digit(m: Machine, d: usize) -> Machine
     requires { (m.value ≤ 10000000000) × (d ≤ 9) }
     ensures { result ≡ next_digit d m }
@@ -162,65 +104,42 @@ pub fn next_digit(m: Machine, d: usize) -> Machine
     if m.digits < 10 {
         return Machine {
             phase: Phase::Digits,
-            body: m.body,
-            rows: m.rows,
-            columns: m.columns,
-            left: m.left,
             digits: m.digits + 1,
             value: m.value * 10 + d,
-            negative: m.negative,
-            inequality: m.inequality,
-            equations: m.equations,
-            inequalities: m.inequalities,
+            ..m
         };
     }
     in_phase(m, Phase::Dead)
 }
 
 // A minus begins a number of a row.
+#[tactic(auto, unfolding(matrix::specs::Machine::minus_begins))]
 pub fn minus_begins(m: Machine) -> Machine
     ensures { result ≡ minus_begins m }
 {
-    if m.body {
-        if m.left == 0 {
-            return in_phase(m, Phase::Dead);
-        }
-        return Machine {
-            phase: Phase::Signed,
-            body: m.body,
-            rows: m.rows,
-            columns: m.columns,
-            left: m.left - 1,
-            digits: m.digits,
-            value: m.value,
-            negative: true,
-            inequality: m.inequality,
-            equations: m.equations,
-            inequalities: m.inequalities,
-        };
+    if !m.body || m.left == 0 {
+        return in_phase(m, Phase::Dead);
     }
-    in_phase(m, Phase::Dead)
+    Machine {
+        phase: Phase::Signed,
+        left: m.left - 1,
+        negative: true,
+        ..m
+    }
 }
 
 // A header or row line ends, if none of its numbers is missing.
+#[tactic(auto, unfolding(matrix::specs::Machine::line_ends))]
 pub fn line_ends(m: Machine, phase: Phase) -> Machine
     ensures { result ≡ line_ends phase m }
 {
     if m.left != 0 {
         return in_phase(m, Phase::Dead);
     }
-    let columns = either(m.body, m.columns, m.value);
     Machine {
         phase,
         body: true,
-        rows: m.rows,
-        columns,
-        left: m.left,
-        digits: m.digits,
-        value: m.value,
-        negative: m.negative,
-        inequality: m.inequality,
-        equations: m.equations,
-        inequalities: m.inequalities,
+        columns: if m.body { m.columns } else { m.value },
+        ..m
     }
 }

@@ -38,15 +38,10 @@ pub fn less_multiple(row: &mut [i64], other: &[i64], q: i64) -> bool
     ensures fits { result ≡ all_within (less row.old q other.now) }
 {
     let mut signs: i64 = 0;
-    let mut i = 0;
-    while i < row.len() {
-        let a = row[i];
-        let b = other[i];
-        let z = less_product(a, q, b);
-        let side = sides(z);
-        signs = signs | side;
-        row[i] = z;
-        i += 1;
+    for (i, a) in row.iter_mut().enumerate() {
+        let z = less_product(*a, q, other[i]);
+        signs |= sides(z);
+        *a = z;
     }
     signs >= 0
 }
@@ -58,15 +53,10 @@ pub fn blend(row: &mut [i64], p: i64, other: &[i64], q: i64) -> bool
     ensures fits { result ≡ all_within (less (scaled p row.old) q other.now) }
 {
     let mut fits = true;
-    let mut i = 0;
-    while i < row.len() {
-        let a = row[i];
-        let b = other[i];
-        let z = less_product(product(p, a), q, b);
-        let inside = whole::within(z);
-        fits = fits & inside;
-        row[i] = z;
-        i += 1;
+    for (i, a) in row.iter_mut().enumerate() {
+        let z = less_product(product(p, *a), q, other[i]);
+        fits &= whole::within(z);
+        *a = z;
     }
     fits
 }

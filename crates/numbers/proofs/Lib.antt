@@ -1,3 +1,3 @@
--- Five numbers, stored; and what they tell.
+-- Numbers stored one behind another; and what they tell.
 mod Stored
 pub mod Told

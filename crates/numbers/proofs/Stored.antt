@@ -1,15 +1,14 @@
--- Five stores fill an array of five numbers.
-use mathlib.Core.Path.{◌≡◌, refl}
-use mathlib.Core.List.{List, [], ◌∷◌}
-use Prim.Native.Nat.{ℕ}
+-- One more number stored behind those that are poured, as long as there is room.
+use mathlib.Core.Path.{◌≡◌, refl, ap}
+use mathlib.Core.List.{List, [], ◌∷◌, ◌++◌}
+use Prim.Native.Nat.{ℕ, ◌<◌}
 use native.Mathlib.Omega.{arith}
 use lib.ListN.{length, set}
+use Rattle.matrix.specs.Poured.{poured}
 
-pub stored : (l : List ℕ) (a b c d e : ℕ) → length l ≡ 5 → set (set (set (set (set l 0 a) 1 b) 2 c) 3 d) 4 e ≡ a ∷ b ∷ c ∷ d ∷ e ∷ []
-stored [] a b c d e h = absurd (omega (arith, h))
-stored (_ ∷ []) a b c d e h = absurd (omega (arith, h))
-stored (_ ∷ _ ∷ []) a b c d e h = absurd (omega (arith, h))
-stored (_ ∷ _ ∷ _ ∷ []) a b c d e h = absurd (omega (arith, h))
-stored (_ ∷ _ ∷ _ ∷ _ ∷ []) a b c d e h = absurd (omega (arith, h))
-stored (_ ∷ _ ∷ _ ∷ _ ∷ _ ∷ []) a b c d e h = refl
-stored (_ ∷ _ ∷ _ ∷ _ ∷ _ ∷ _ ∷ l) a b c d e h = absurd (omega (arith, h))
+pub stored : (numbers table : List ℕ) (x : ℕ) → length numbers < length table → set (poured numbers table) (length numbers) x ≡ poured (numbers ++ x ∷ []) table
+unfolding poured
+stored [] [] x h = absurd (omega arith)
+stored [] (old ∷ table) x h = refl
+stored (a ∷ numbers) [] x h = absurd (omega arith)
+stored (a ∷ numbers) (old ∷ table) x h = ap (λ (l : List ℕ). a ∷ l) (stored numbers table x (omega arith))

@@ -1,64 +1,92 @@
 // An answer as five numbers in a lent array: its kind, then its values, zeros behind.
 #![tactic(auto)]
 
-ghost use Rattle.std.specs.Prelude.{◌≡◌, [], ◌∷◌, length};
-ghost use Rattle.matrix.specs.Poured.{poured};
-ghost use Rattle.numbers.specs.Numbers.{five, four_of};
-ghost use Rattle.rules.specs.Numbers.{of_refusal, of_outcome, of_verdict, of_reading};
+ghost use Rattle.std.specs.Prelude.{◌≡◌, ◌≤◌, ℕ, List, [], ◌∷◌, length, take};
+ghost use Rattle.numbers.specs.Numbers.{five};
+ghost use Rattle.rules.specs.Numbers.{table_number, of_refusal, of_outcome, of_verdict, of_reading};
 
-use rules::{Outcome, Reading, Refusal, Verdict};
+use rules::{Outcome, Refusal, System, Table};
+use std::marker::Model;
 
-fn wide(x: usize) -> u64
-    ensures { result ≡ x }
-{
-    x as u64
-}
-
-fn put(into: &mut [u64], kind: u64, a: usize, b: usize, c: usize, d: usize)
-    requires { length into.old ≡ 5 }
-    ensures { into.new ≡ kind ∷ a ∷ b ∷ c ∷ d ∷ [] }
-{
-    into[0] = kind;
-    into[1] = wide(a);
-    into[2] = wide(b);
-    into[3] = wide(c);
-    into[4] = wide(d);
-}
-
-// What a refusal carries: its number, then its fields, `count` in all, and zeros behind.
-#[derive(Clone, Copy)]
+// What a refusal carries: its number, then its fields.
+#[derive(Drop)]
 pub struct Carried {
-    pub count: usize,
-    pub number: usize,
-    pub first: usize,
-    pub second: usize,
-    pub third: usize,
+    numbers: [usize; 4],
+    count: usize,
 }
 
-fn carry(count: usize, number: usize, first: usize, second: usize, third: usize) -> Carried
-    ensures { (result.count ≡ count) × (four_of result ≡ number ∷ first ∷ second ∷ third ∷ []) }
+impl Model for Carried {
+    ghost Value = { List ℕ };
+
+    ghost view = { λ carried. take carried.count carried.numbers };
+
+    ghost invariant = { λ carried. carried.count ≤ 4 };
+}
+
+impl Carried {
+    fn new(numbers: &[usize]) -> Carried
+        requires { length numbers.now ≤ 4 }
+        ensures { result ≡ numbers.now }
+    {
+        let mut four = [0; 4];
+        four[..numbers.len()].copy_from_slice(numbers);
+        Carried {
+            numbers: four,
+            count: numbers.len(),
+        }
+    }
+
+    pub fn as_slice(&self) -> &[usize]
+        ensures value { result.now ≡ self.now }
+        ensures few { length result.now ≤ 4 }
+    {
+        &self.numbers[..self.count]
+    }
+}
+
+// The number of a table.
+fn table_number(table: Table) -> usize
+    ensures { result ≡ table_number table }
 {
-    Carried {
-        count,
-        number,
-        first,
-        second,
-        third,
+    match table {
+        Table::Equations => 0,
+        Table::Inequalities => 1,
+        Table::Multipliers => 2,
     }
 }
 
 // The one place where a refusal gets its number.
-pub fn of_refusal(refusal: Refusal) -> Carried
-    ensures { (result.count ≡ length (of_refusal refusal)) × (four_of result ≡ poured (of_refusal refusal) (0 ∷ 0 ∷ 0 ∷ 0 ∷ [])) }
+impl From<Refusal> for Carried {
+    ghost from_gives = { λ refusal carried. carried ≡ of_refusal refusal };
+
+    #[tactic(auto, unfolding(rules::specs::Numbers::of_refusal))]
+    fn from(refusal: Refusal) -> Carried {
+        match refusal {
+            Refusal::OutOfRange => Carried::new(&[1]),
+            Refusal::WrongLength => Carried::new(&[2]),
+            Refusal::BadEntry { table, row, column } => Carried::new(&[
+                3,
+                table_number(table),
+                row,
+                column,
+            ]),
+            Refusal::TooLarge { row, steps } => Carried::new(&[4, row, steps]),
+            Refusal::LargeSum { inequality } => Carried::new(&[5, inequality]),
+            Refusal::Malformed { place } => Carried::new(&[6, place]),
+            Refusal::LongText => Carried::new(&[7]),
+        }
+    }
+}
+
+// A kind, its values, and zeros behind.
+fn put_values(into: &mut [u64], kind: u64, values: &[usize])
+    requires { (length into.old ≡ 5) × (length values.now ≤ 4) }
+    ensures { into.new ≡ five (kind ∷ values.now) }
 {
-    match refusal {
-        Refusal::OutOfRange => carry(1, 1, 0, 0, 0),
-        Refusal::WrongLength => carry(1, 2, 0, 0, 0),
-        Refusal::BadEntry { table, row, column } => carry(4, 3, table, row, column),
-        Refusal::TooLarge { row, steps } => carry(3, 4, row, steps, 0),
-        Refusal::LargeSum { inequality } => carry(2, 5, inequality, 0, 0),
-        Refusal::Malformed { place } => carry(2, 6, place, 0, 0),
-        Refusal::LongText => carry(1, 7, 0, 0, 0),
+    into.fill(0);
+    into[0] = kind;
+    for (i, value) in values.iter().enumerate() {
+        into[i + 1] = *value as u64;
     }
 }
 
@@ -66,40 +94,42 @@ fn put_refusal(into: &mut [u64], refusal: Refusal)
     requires { length into.old ≡ 5 }
     ensures { into.new ≡ five (4 ∷ of_refusal refusal) }
 {
-    let r = of_refusal(refusal);
-    put(into, 4, r.number, r.first, r.second, r.third)
+    put_values(into, 4, Carried::from(refusal).as_slice())
 }
 
+#[tactic(auto, unfolding(rules::specs::Numbers::of_outcome))]
 pub fn put_outcome(into: &mut [u64], outcome: Outcome)
     requires { length into.old ≡ 5 }
     ensures { into.new ≡ five (of_outcome outcome) }
 {
     match outcome {
-        Outcome::Open { steps } => put(into, 0, steps, 0, 0, 0),
-        Outcome::EquationConflict { row, steps } => put(into, 1, row, steps, 0, 0),
-        Outcome::OneRowConflict { i, steps } => put(into, 2, i, steps, 0, 0),
-        Outcome::TwoRowConflict { i, j, steps } => put(into, 3, i, j, steps, 0),
+        Outcome::Open { steps } => put_values(into, 0, &[steps]),
+        Outcome::EquationConflict { row, steps } => put_values(into, 1, &[row, steps]),
+        Outcome::OneRowConflict { i, steps } => put_values(into, 2, &[i, steps]),
+        Outcome::TwoRowConflict { i, j, steps } => put_values(into, 3, &[i, j, steps]),
         Outcome::Refused(refusal) => put_refusal(into, refusal),
     }
 }
 
-pub fn put_verdict(into: &mut [u64], verdict: Verdict)
+#[tactic(auto, unfolding(rules::specs::Numbers::of_verdict))]
+pub fn put_verdict(into: &mut [u64], verdict: Result<bool, Refusal>)
     requires { length into.old ≡ 5 }
     ensures { into.new ≡ five (of_verdict verdict) }
 {
     match verdict {
-        Verdict::No => put(into, 0, 0, 0, 0, 0),
-        Verdict::Yes => put(into, 1, 0, 0, 0, 0),
-        Verdict::NotChecked(refusal) => put_refusal(into, refusal),
+        Ok(false) => put_values(into, 0, &[]),
+        Ok(true) => put_values(into, 1, &[]),
+        Err(refusal) => put_refusal(into, refusal),
     }
 }
 
-pub fn put_reading(into: &mut [u64], reading: Reading)
+#[tactic(auto, unfolding(rules::specs::Numbers::of_reading))]
+pub fn put_reading(into: &mut [u64], reading: Result<System, Refusal>)
     requires { length into.old ≡ 5 }
     ensures { into.new ≡ five (of_reading reading) }
 {
     match reading {
-        Reading::System { n, m, k } => put(into, 0, n, m, k, 0),
-        Reading::Unread(refusal) => put_refusal(into, refusal),
+        Ok(System { n, m, k }) => put_values(into, 0, &[n, m, k]),
+        Err(refusal) => put_refusal(into, refusal),
     }
 }

@@ -15,7 +15,7 @@ use Rattle.rows.proofs.Bounded.{and_both, bounded-append, bounded-take, bounded-
 use Rattle.rules.specs.Elimination.{State, Carried, reduced, listed_a, gcd_of_coefficients, from_b, work, unmet}
 use Rattle.rules.proofs.Within.{Within, reduced-within}
 use Rattle.steps.specs.Shown.{tried, carry, kept_row, later_of, Divisors}
-use Rattle.steps.specs.declared.Kept.TheVariants.{Fits}
+use Rattle.std.specs.Prelude.{Some}
 use Rattle.stepping.specs.Worked.{in_hand, steps_from, Working3}
 use Rattle.stepping.proofs.Turns.{tried-true, tried-made}
 use Rattle.one_row.proofs.Gcds.{coefficients-left}
@@ -62,7 +62,7 @@ module _ (n m : ℕ) (rows multipliers : List ℤ) (divisors : List ℕ) (w : Wo
 
   module _ (row multipliers' : List ℤ) (d : ℕ) (row-long : length row ≡ suc n) (multipliers-long : length multipliers' ≡ m)
       (alive : 0 < gcd_of (take (suc n) rows))
-      (e : kept_row (Fits d) row multipliers' ≡ tried (all_within (listed_a (gcd_of (take (suc n) rows)) (in_hand n m rows multipliers divisors))) (reduced (gcd_of (take (suc n) rows)) (in_hand n m rows multipliers divisors))) where
+      (e : kept_row (Some d) row multipliers' ≡ tried (all_within (listed_a (gcd_of (take (suc n) rows)) (in_hand n m rows multipliers divisors))) (reduced (gcd_of (take (suc n) rows)) (in_hand n m rows multipliers divisors))) where
     fit : all_within (listed_a (gcd_of (take (suc n) rows)) (in_hand n m rows multipliers divisors)) ≡ true
     fit = tried-true (carry row multipliers' d) _ (reduced (gcd_of (take (suc n) rows)) (in_hand n m rows multipliers divisors)) e
 

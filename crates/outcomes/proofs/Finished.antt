@@ -6,6 +6,7 @@ use mathlib.Core.List.{List}
 use Prim.Native.Nat.{ℕ, suc, ◌*◌}
 use lib.ListN.{length, replicate}
 use lib.IntN.{ℤ, pos}
+use Rattle.std.specs.Prelude.{Ok, Err}
 use Rattle.rows.specs.Row.{zeros, all_within}
 use Rattle.rows.specs.Table.{rows_of, flat}
 use Rattle.rows.proofs.TableLaws.{flat-rows_of}
@@ -23,7 +24,7 @@ use Rattle.outcomes.specs.Answered.{answer}
 use Rattle.outcomes.proofs.Looked.{looked-same}
 use Rattle.outcomes.proofs.TightWithin.{rows-within}
 use Rattle.outcomes.proofs.Tabled.{same_answer}
-use Rattle.outcomes.proofs.Worked.{Told, bad, rows, worked-all, worked-large, after-all, after-large}
+use Rattle.outcomes.proofs.Worked.{Told, rows, worked-all, worked-large, after-all, after-large}
 
 -- the work on the rows looks neither at the way back nor at the steps
 same-work : (n m : ℕ) (substitution : List ℤ) (marks : List ℕ) (way_back reasons : List ℤ) (steps : ℕ) (inequalities : List (List ℤ))
@@ -56,7 +57,7 @@ module _ (n m : ℕ) (substitution : List ℤ) (marks : List ℕ) (way_back reas
   given = rows_of (suc n) k inequalities
 
   -- what the work on the rows tells where none is too large
-  module _ (worked : rows_shown n k 0 tightened used ≡ rows_worked n m (shown_state n m substitution marks reasons) given)
+  module _ (worked : rows_shown n k (Ok tt) tightened used ≡ rows_worked n m (shown_state n m substitution marks reasons) given)
       (long : length tightened ≡ k * suc n) where
     told : Told n m k state given tightened used
     told = worked-all n m k state given tightened used (worked ∙ same-work n m substitution marks way_back reasons steps given)
@@ -83,11 +84,8 @@ module _ (n m : ℕ) (substitution : List ℤ) (marks : List ℕ) (way_back reas
         told.noted
         ∙ after-all n m k state given told.none
 
-  pub large-answer : (found : ℕ) → (found ≡ 0 → ⊥)
-      → rows_shown n k found tightened used ≡ rows_worked n m (shown_state n m substitution marks reasons) given
+  pub large-answer : (found : ℕ) → rows_shown n k (Err found) tightened used ≡ rows_worked n m (shown_state n m substitution marks reasons) given
       → record { outcome = Refused (LargeSum found); results = blank n m k } ≡ with_inequalities n m k given state
-  large-answer found some worked =
-      let first : found ≡ bad n m k state given =
-      worked-large n m k state given found tightened used some (worked ∙ same-work n m substitution marks way_back reasons steps given) in
-      ap (λ (i : ℕ). record { outcome = Refused (LargeSum i); results = blank n m k }) first
-      ∙ after-large n m k state given (λ z. some (first ∙ z))
+  large-answer found worked =
+      let first = worked-large n m k state given found tightened used (worked ∙ same-work n m substitution marks way_back reasons steps given) in
+      ap (λ (i : ℕ). record { outcome = Refused (LargeSum i); results = blank n m k }) first.0 ∙ after-large n m k state given first.1

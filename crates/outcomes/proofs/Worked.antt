@@ -1,12 +1,12 @@
 -- A finished run and its inequalities: what the answer of the work on all rows tells, and the answer of the call that it leads to.
-use mathlib.Core.Path.{◌≡◌, refl, sym, ap, ◌∙◌}
+use mathlib.Core.Path.{◌≡◌, refl, sym, ap}
 use mathlib.Core.Bool.{Bool, true, false, not}
 use mathlib.Core.List.{List, map}
 use Prim.Native.Nat.{ℕ, suc}
-use native.Mathlib.Omega.{arith}
-use borrow.Author.Tests.{eq-eqb, ne_eqb, eqb-true}
+use borrow.Author.Tests.{eq-eqb, ne_eqb, eqb-true, eqb-false}
 use lib.Dec.{eqb}
 use lib.IntN.{ℤ}
+use Rattle.std.specs.Prelude.{Ok, Err}
 use Rattle.rows.specs.Row.{all_within}
 use Rattle.rows.specs.Table.{rows_of}
 use Rattle.rules.specs.declared.Outcome.TheVariants.{Refused}
@@ -14,7 +14,7 @@ use Rattle.rules.specs.declared.Refusal.TheVariants.{LargeSum}
 use Rattle.rules.specs.Elimination.{State}
 use Rattle.rules.specs.Inequalities.{sums, used_by, tightened_row, first_row}
 use Rattle.rules.specs.Outcomes.{Answer, blank, all_filled, looked_at, with_inequalities}
-use Rattle.inequalities.specs.Worked.{RowsWorked, all_worked, first_large, rows_shown, rows_worked}
+use Rattle.inequalities.specs.Worked.{all_worked, first_large, rows_shown, rows_worked}
 
 module _ (n m k : ℕ) (s : State) (inequalities : List (List ℤ)) where
   -- the sums, the first row with one beyond the limit, the rows tightened, and the sets that they use
@@ -36,24 +36,22 @@ module _ (n m k : ℕ) (s : State) (inequalities : List (List ℤ)) where
     pub made : rows_of (suc n) k tightened ≡ rows
     pub noted : used ≡ sets
 
-  pub worked-all : (tightened : List ℤ) (used : List ℕ) → rows_shown n k 0 tightened used ≡ rows_worked n m s inequalities → Told tightened used
+  pub worked-all : (tightened : List ℤ) (used : List ℕ) → rows_shown n k (Ok tt) tightened used ≡ rows_worked n m s inequalities → Told tightened used
   worked-all tightened used = go (eqb bad 0) refl
     where
       go : (b : Bool) → eqb bad 0 ≡ b
           → all_worked (rows_of (suc n) k tightened) used ≡ elim b [ true ↦ all_worked rows sets | false ↦ first_large bad ] → Told tightened used
       go true e h = record { none = eqb-true bad 0 e; made = cc; noted = cc }
-      go false e h = let z : ◌≡◌ {A = ℕ} 0 1 = cc in absurd (omega arith)
+      go false e h = absurd (cc)
 
-  pub worked-large : (found : ℕ) (tightened : List ℤ) (used : List ℕ) → (found ≡ 0 → ⊥)
-      → rows_shown n k found tightened used ≡ rows_worked n m s inequalities → found ≡ bad
-  worked-large found tightened used some h = go (eqb bad 0) (ap told (sym (ne_eqb found 0 some)) ∙ h)
+  pub worked-large : (found : ℕ) (tightened : List ℤ) (used : List ℕ)
+      → rows_shown n k (Err found) tightened used ≡ rows_worked n m s inequalities → (found ≡ bad) × (bad ≡ 0 → ⊥)
+  worked-large found tightened used = go (eqb bad 0) refl
     where
-      told : Bool → RowsWorked
-      told b = elim b [ true ↦ all_worked (rows_of (suc n) k tightened) used | false ↦ first_large found ]
-
-      go : (b : Bool) → first_large found ≡ elim b [ true ↦ all_worked rows sets | false ↦ first_large bad ] → found ≡ bad
-      go true h = let z : ◌≡◌ {A = ℕ} 0 1 = cc in absurd (omega arith)
-      go false h = cc
+      go : (b : Bool) → eqb bad 0 ≡ b → first_large found ≡ elim b [ true ↦ all_worked rows sets | false ↦ first_large bad ]
+          → (found ≡ bad) × (bad ≡ 0 → ⊥)
+      go true e h = absurd (cc)
+      go false e h = (cc, eqb-false bad 0 e)
 
   -- ---- the answer of the call
   answered : Bool → Answer

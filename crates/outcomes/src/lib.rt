@@ -1,26 +1,25 @@
 // The outcome after a run that finished: the inequalities worked, then the two looks.
 #![tactic(auto)]
 
-ghost use Rattle.std.specs.Prelude.{◌≡◌, true, suc, ◌≤◌, ◌*◌, pos, length, replicate};
+ghost use Rattle.std.specs.Prelude.{◌≡◌, true, suc, ◌≤◌, ◌*◌, ◌/◌, pos, length, replicate};
 ghost use Rattle.rows.specs.Row.{all_within};
 ghost use Rattle.rows.specs.Table.{rows_of};
 ghost use Rattle.rules.specs.Outcomes.{looked_at, with_inequalities as with_inequalities_of};
-ghost use Rattle.stepping.specs.Worked.{state_of};
-ghost use Rattle.outcomes.specs.Answered.{answer};
+ghost use Rattle.rules.specs.Lent.{SameTables, SameLengths, SameRows, StateLengths, RowLengths};
+ghost use Rattle.outcomes.specs.Answered.{answer_in};
+ghost use Rattle.stepping.specs.Worked.{state_now};
 
-use rules::{Outcome, Refusal};
+use rules::{Outcome, Refusal, RowTables, StateTables, System};
 
 // The two looks for a conflict among the tightened rows.
-fn look(tightened: &[i64], n: usize, k: usize, steps: usize) -> Outcome
-    requires { (n ≤ 32) × (k ≤ 64) × (length tightened.now ≡ k * suc n) × (all_within tightened.now ≡ true) }
-    ensures { result ≡ looked_at n 0 k steps (rows_of (suc n) k tightened.now) }
+fn look(tightened: &[i64], n: usize, steps: usize) -> Outcome
+    requires { (n ≤ 32) × (all_within tightened.now ≡ true) }
+    ensures { let k = length tightened.now / suc n in result ≡ looked_at n 0 k steps (rows_of (suc n) k tightened.now) }
 {
-    let one = looks::first_alone(tightened, k, n);
-    if one != 0 {
-        return Outcome::OneRowConflict { i: one, steps };
+    if let Some(i) = looks::first_alone(tightened, n) {
+        return Outcome::OneRowConflict { i, steps };
     }
-    let pair = looks::first_pair(tightened, k, n);
-    if pair.i != 0 {
+    if let Some(pair) = looks::first_pair(tightened, n) {
         return Outcome::TwoRowConflict {
             i: pair.i,
             j: pair.j,
@@ -32,44 +31,27 @@ fn look(tightened: &[i64], n: usize, k: usize, steps: usize) -> Outcome
 
 // The inequalities after a run that finished: all rows are worked before a conflict is looked for.
 pub fn with_inequalities(
-    n: usize,
-    m: usize,
-    k: usize,
+    system: System,
     steps: usize,
     inequalities: &[i64],
-    substitution: &mut [i64],
-    marks: &mut [u8],
-    back: &mut [i64],
-    reasons: &mut [i64],
+    state: &mut StateTables,
     conflict: &mut [i64],
-    tightened: &mut [i64],
-    used: &mut [u64],
+    rows: &mut RowTables,
 ) -> Outcome
-    requires n_bound { (n ≤ 32) × (m ≤ 32) × (k ≤ 64) × (length inequalities.now ≡ k * suc n) × (length substitution.old ≡ n * suc n) × (length marks.old ≡ n) × (length back.old ≡ n * suc n) × (length reasons.old ≡ n * suc m) }
-    requires conflict_value { (conflict.old ≡ replicate (suc m) (pos 0)) × (length tightened.old ≡ k * suc n) × (length used.old ≡ k) × (all_within inequalities.now ≡ true) × (all_within substitution.old ≡ true) }
-    ensures { answer result substitution.new marks.new back.new reasons.new conflict.new tightened.new used.new ≡ with_inequalities_of n m k (rows_of (suc n) k inequalities.now) (state_of n m substitution.old marks.old back.old reasons.old steps) }
+    requires size { (system.n ≤ 32) × (system.m ≤ 32) × (system.k ≤ 64) × (length inequalities.now ≡ system.k * suc system.n) }
+    requires lengths { StateLengths system.n system.m state.old × RowLengths system.n system.k rows.old }
+    requires values { (all_within inequalities.now ≡ true) × (all_within state.old.substitution.now ≡ true) × (conflict.old ≡ replicate (suc system.m) (pos 0)) }
+    ensures same { SameTables state.old state.new × SameLengths state.old state.new × SameRows rows.old rows.new }
+    ensures answer { answer_in result state.new conflict.new rows.new ≡ with_inequalities_of system.n system.m system.k (rows_of (suc system.n) system.k inequalities.now) (state_now system.n system.m state.old steps) }
 {
-    let bad = inequalities::work_rows(
-        tightened,
-        used,
-        inequalities,
-        substitution,
-        marks,
-        reasons,
-        n,
-        m,
-    );
-    if bad != 0 {
-        filling::clear(
-            substitution,
-            marks,
-            back,
-            reasons,
-            conflict,
-            tightened,
-            used,
-        );
-        return Outcome::Refused(Refusal::LargeSum { inequality: bad });
+    match inequalities::work_rows(rows, inequalities, state, system.n, system.m) {
+        Ok(()) => {
+            let tightened = &mut *rows.tightened;
+            look(tightened, system.n, steps)
+        }
+        Err(inequality) => {
+            filling::clear(state, conflict, rows);
+            Outcome::Refused(Refusal::LargeSum { inequality })
+        }
     }
-    look(tightened, n, k, steps)
 }

@@ -2,38 +2,54 @@
 // on standard error says so, and after a failed read nothing is printed.
 #![tactic(auto)]
 
-ghost use Rattle.std.specs.Prelude.{◌≡◌, length};
+ghost use Rattle.std.specs.Prelude.{◌≡◌, length, IfSome, OnOk};
+ghost use Rattle.std.specs.Io.KnownBytes.{Appends};
+ghost use Rattle.matrix.specs.Program.{program};
 
-use streams::Text;
+use std::io::{Read, Write};
+use std::{fmt, io};
 
-// One byte more than the longest text, so that a longer one is seen.
-fn text_room() -> [u8; 65537]
-    ensures { 65537 ≡ length result }
-{
-    [0; 65537]
+// What could not be done.
+#[derive(Clone, Copy)]
+enum Failure {
+    Reading,
+    Writing,
 }
 
-fn page_room() -> [u8; 98304]
-    ensures { 98304 ≡ length result }
-{
-    [0; 98304]
-}
-
-fn reply(rt: &(impl Print + Eprint), text: &[u8]) {
-    let mut page = page_room();
-    let size = answering::answer(text, &mut page);
-    if rt.write_all(&page[..size]).is_err() {
-        let _ = rt.eprintln("plassobine: standard output could not be written");
+impl fmt::Display for Failure {
+    fn fmt<W: fmt::Write>(&self, f: &mut fmt::Formatter<W>) -> fmt::Result {
+        f.write_str(match self {
+            Failure::Reading => "standard input could not be read",
+            Failure::Writing => "standard output could not be written",
+        })
     }
 }
 
+// Room for so many bytes.
+fn room<const N: usize>() -> [u8; N]
+    ensures { N ≡ length result }
+{
+    [0; N]
+}
+
+// The reply to a text. One byte more than the longest text is kept, so that a longer one is seen.
+fn run<R: Read, W: Write>(reader: &mut R, writer: &mut W) -> Result<(), Failure>
+    ensures { OnOk result (IfSome (R.remaining reader.old) (λ input. Appends (W.contents writer.old) (W.contents writer.new) (program input))) }
+{
+    let mut text = room::<65537>();
+    let Ok(count) = streams::read_text(reader, &mut text) else {
+        return Err(Failure::Reading);
+    };
+    let mut page = room::<98304>();
+    let size = answering::answer(&text[..count], &mut page);
+    if writer.write_all(&page[..size]).is_err() {
+        return Err(Failure::Writing);
+    }
+    Ok(())
+}
+
 fn main(rt: HostRuntime) {
-    let mut room = text_room();
-    let text = streams::read_text(&mut rt.stdin(), &mut room);
-    match text {
-        Text::Whole(length) => reply(&rt, &room[..length]),
-        Text::Unreadable => {
-            let _ = rt.eprintln("plassobine: standard input could not be read");
-        }
+    if let Err(failure) = run(&mut rt.stdin(), &mut io::writer(&rt)) {
+        let _ = eprintln!(rt; "plassobine: {failure}");
     }
 }

@@ -1,6 +1,6 @@
--- The columns of a row from column c on, as the loops meet them: how many are open, what an open one adds, and -x_i.
-use mathlib.Core.Path.{◌≡◌, ap, ◌∙◌}
-use mathlib.Core.Bool.{Bool, true, false, cond}
+-- The columns of a row from column c on, as the loops meet them: what an open one adds, and -x_i. How many are open.
+use mathlib.Core.Path.{◌≡◌, refl, ap, ◌∙◌}
+use mathlib.Core.Bool.{Bool, true, false, cond, not}
 use mathlib.Core.List.{List, [], ◌∷◌, ◌++◌, map}
 use Prim.Native.Nat.{ℕ, suc, ◌+◌, ◌≤◌, ◌<◌}
 use native.Mathlib.Omega.{arith}
@@ -9,26 +9,20 @@ use lib.Dec.{eqb}
 use lib.ListN.{length, get_or, set, drop, drop_of_length-le, length-set, length-replicate, get_or-replicate}
 use lib.Seq.{get_or-set_same, get_or-set_other}
 use lib.IntN.{ℤ, pos}
+use Rattle.std.specs.List.{count_by}
+use Rattle.std.proofs.lemmas.List.Recursion.{is_count_by}
 use Rattle.rows.specs.Row.{at, zeros}
 use Rattle.rows.proofs.Lists.{tail_at}
 use Rattle.matrix.specs.Printed.{signed, turned, spaced, spaced_by, opened, open_columns}
 use Rattle.matrix.proofs.Spaced.{spaced-append}
 
-module _ (marks : List ℕ) (c : ℕ) (h : c < length marks) where
-  columns-more : (b : Bool) → eqb (get_or marks c 0) 0 ≡ b
-      → open_columns (drop c marks) ≡ cond b (open_columns (drop (c + 1) marks)) (suc (open_columns (drop (c + 1) marks)))
-  unfolding open_columns
-  columns-more b e = rw (tail_at marks c 0 h, e)
-
-  pub columns-shut : get_or marks c 0 ≡ 0 → open_columns (drop c marks) ≡ open_columns (drop (c + 1) marks)
-  columns-shut e = columns-more true (eq-eqb (get_or marks c 0) 0 e)
-
-  pub columns-open : (get_or marks c 0 ≡ 0 → ⊥) → open_columns (drop c marks) ≡ suc (open_columns (drop (c + 1) marks))
-  columns-open n = columns-more false (ne_eqb (get_or marks c 0) 0 n)
-
-pub columns-none : (marks : List ℕ) (c : ℕ) → length marks ≤ c → open_columns (drop c marks) ≡ 0
+pub open_counted : (marks : List ℕ) → open_columns marks ≡ count_by (λ mark. not (eqb mark 0)) marks
 unfolding open_columns
-columns-none marks c h = rw (drop_of_length-le marks h)
+open_counted marks =
+    is_count_by open_columns (λ mark. not (eqb mark 0)) refl
+    (λ mark more. let n = open_columns more in
+    elim (eqb mark 0) as (λ b. cond b n (suc n) ≡ cond (not b) (1 + n) n) [ true ↦ refl | false ↦ omega arith ])
+    marks
 
 -- ---- the bytes of a row's open columns and its constant
 module _ (opposite : Bool) (marks : List ℕ) (row : List ℤ) where

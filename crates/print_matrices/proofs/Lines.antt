@@ -1,33 +1,39 @@
--- The lines of the rows from row i on, as the loops meet them, and the row of a flat table that a loop lends.
+-- The lines of the rows that are left of a flat table, as the loops meet them.
 use mathlib.Core.Path.{◌≡◌, refl, ap}
 use mathlib.Core.Bool.{false}
 use mathlib.Core.List.{List, [], ◌∷◌, ◌++◌, map}
-use Prim.Native.Nat.{ℕ, suc, ◌+◌, ◌-◌, ◌*◌, ◌≤◌, ◌<◌}
+use Prim.Native.Nat.{ℕ, suc, ◌+◌, ◌*◌, ◌/◌, ◌<◌}
+use native.Mathlib.Nat.{mul-div_cancel, add-div_left, div-eq_of_lt}
 use native.Mathlib.Numerals.{add-one}
 use native.Mathlib.Omega.{arith}
-use lib.ListN.{length, take, drop, drop_of_length-le}
+use lib.ListN.{length, length-append}
+use lib.Seq.{take_at, drop_at}
 use lib.IntN.{ℤ}
-use Rattle.rows.specs.Table.{rows_of, row_at}
-use Rattle.rows.proofs.Lists.{tail_at}
-use Rattle.rows.proofs.TableLaws.{row-lent, length-rows_of, length-row_at, row_of}
+use Rattle.rows.specs.Table.{rows_of}
 use Rattle.matrix.specs.Printed.{turned, lines_from}
 
-module _ (line : ℕ → List ℤ → List ℕ) (w count : ℕ) (table : List ℤ) where
-  abbrev pub lines_ahead : ℕ → List ℕ
-  lines_ahead i = lines_from line i (drop i (rows_of w count table))
+-- the lines from line i on: the rows of width n + 1 that are left
+abbrev pub lines_left : (ℕ → List ℤ → List ℕ) → ℕ → ℕ → List ℤ → List ℕ
+lines_left line n i rest = lines_from line i (rows_of (suc n) (length rest / suc n) rest)
 
-  pub lines_none : (i : ℕ) → count ≤ i → lines_ahead i ≡ []
-  unfolding lines_from
-  lines_none i h = rw (drop_of_length-le (rows_of w count table) {i = i} (omega (arith, length-rows_of w count table)))
+-- how many rows there are
+pub row_count : (n count : ℕ) (table : List ℤ) → length table ≡ count * suc n → length table / suc n ≡ count
+row_count n count table e = rw e (mul-div_cancel count (omega arith))
 
-  pub lines_more : (i : ℕ) → i < count → lines_ahead i ≡ line i (row_at w i table) ++ lines_ahead (i + 1)
-  unfolding lines_from
-  lines_more i h = rw (tail_at (rows_of w count table) i [] (omega (arith, length-rows_of w count table)), row_of w count i table h, add-one i)
+module _ (line : ℕ → List ℤ → List ℕ) (n i : ℕ) where
+  pub line-first : (rest row more : List ℤ) → rest ≡ row ++ more → length row ≡ suc n
+      → lines_left line n i rest ≡ line i row ++ lines_left line n (i + 1) more
+  unfolding lines_from rows_of
+  line-first rest row more e h =
+      let count : length (row ++ more) / suc n ≡ suc (length more / suc n) =
+      rw (length-append row more, h, add-div_left (length more) {k = suc n} (omega arith), add-one (length more / suc n)) in
+      rw (e, count, take_at row more (suc n) h, drop_at row more (suc n) h, add-one i)
 
--- row i of a table of `count` rows, as the code lends it, has n + 1 numbers
-pub row-length : (n count i : ℕ) (table : List ℤ) → i < count → length table ≡ count * suc n
-    → length (take (i * (n + 1) + (n + 1) - i * (n + 1)) (drop (i * (n + 1)) table)) ≡ suc n
-row-length n count i table h e = rw (row-lent n i table) (length-row_at (suc n) count i table h e)
+  pub line-none : (rest : List ℤ) → length rest < suc n → lines_left line n i rest ≡ []
+  unfolding lines_from rows_of
+  line-none rest h =
+      let none : length rest / suc n ≡ 0 = div-eq_of_lt h in
+      rw none
 
 -- a row that is not turned
 pub turned_none : (row : List ℤ) → map (turned false) row ≡ row

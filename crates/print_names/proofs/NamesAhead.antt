@@ -1,12 +1,11 @@
 -- The names that are still to come, as the loops meet them.
-use mathlib.Core.Path.{◌≡◌, refl, sym, ◌∙◌}
+use mathlib.Core.Path.{◌≡◌, sym, ◌∙◌}
 use mathlib.Core.Bool.{Bool, true, false, cond, ◌||◌}
 use mathlib.Core.List.{List, [], ◌∷◌, ◌++◌, append_assoc}
-use Prim.Native.Nat.{ℕ, zero, suc, ◌+◌, ◌-◌, ◌/◌, ◌%◌, ◌≤◌, ◌<◌}
+use Prim.Native.Nat.{ℕ, suc, ◌+◌, ◌-◌, ◌/◌, ◌%◌, ◌≤◌, ◌<◌}
 use native.Mathlib.Numerals.{add-one}
 use native.Mathlib.Omega.{arith}
-use native.Mathlib.Nat.{mod-lt}
-use borrow.Author.Tests.{ne_eqb}
+use borrow.Author.Tests.{eq-eqb, ne_eqb}
 use lib.Dec.{eqb}
 use lib.ListN.{length, drop, drop_of_length-le}
 use lib.IntN.{ℤ, pos, nat_abs}
@@ -40,14 +39,6 @@ module _ (multipliers : List ℤ) where
     pub multiplied-here : (at multipliers i ≡ pos 0 → ⊥) → multiplied_from before i ≡ (before ∷ name) ++ multiplied_from space (i + 1)
     multiplied-here n = more false (ne_eqb (nat_abs (at multipliers i)) 0 (λ z. n (nat_abs-zero (at multipliers i) z)))
 
--- ---- of two bits that are not both 0 one is 1
-odd : (a b : ℕ) → a < 2 → b < 2 → (a + b ≡ 0 → ⊥) → (eqb a 1 || eqb b 1) ≡ true
-odd zero zero h k n = absurd (n refl)
-odd zero (suc zero) h k n = refl
-odd zero (suc (suc b)) h k n = absurd (omega arith)
-odd (suc zero) b h k n = refl
-odd (suc (suc a)) b h k n = absurd (omega arith)
-
 -- ---- used equations, from equation i + 1 on, of m in all
 module _ (m : ℕ) where
   abbrev pub used_from : ℕ → ℕ → ℕ → List ℕ
@@ -66,13 +57,17 @@ module _ (m : ℕ) where
     unfolding used_names
     used-more b e = let s : m - i ≡ suc (m - (i + 1)) = omega arith in rw (s, e, add-one (i + 1))
 
-    pub used-past : one % 2 + other % 2 ≡ 0 → used_from i one other ≡ rest
-    used-past e =
-        let a : one % 2 ≡ 0 = omega arith in
-        let b : other % 2 ≡ 0 = omega arith in
-        used-more false (rw (a, b))
+    pub used-past : (one % 2 ≡ 1 → ⊥) → (other % 2 ≡ 1 → ⊥) → used_from i one other ≡ rest
+    used-past a b = used-more false (rw (ne_eqb (one % 2) 1 a, ne_eqb (other % 2) 1 b))
 
-    pub used-here : (one % 2 + other % 2 ≡ 0 → ⊥) → used_from i one other ≡ ((equation_letter ∷ decimal (i + 1)) ++ (space ∷ [])) ++ rest
-    used-here n =
-        used-more true (odd (one % 2) (other % 2) (mod-lt one (omega arith)) (mod-lt other (omega arith)) n)
-        ∙ sym (append_assoc (equation_letter ∷ decimal (i + 1)) (space ∷ []) rest)
+    abbrev named : List ℕ
+    named = ((equation_letter ∷ decimal (i + 1)) ++ (space ∷ [])) ++ rest
+
+    used : (eqb (one % 2) 1 || eqb (other % 2) 1) ≡ true → used_from i one other ≡ named
+    used e = used-more true e ∙ sym (append_assoc (equation_letter ∷ decimal (i + 1)) (space ∷ []) rest)
+
+    pub used_by_one : one % 2 ≡ 1 → used_from i one other ≡ named
+    used_by_one a = used (rw (eq-eqb (one % 2) 1 a))
+
+    pub used_by_other : (one % 2 ≡ 1 → ⊥) → other % 2 ≡ 1 → used_from i one other ≡ named
+    used_by_other a b = used (rw (ne_eqb (one % 2) 1 a, eq-eqb (other % 2) 1 b))

@@ -2,85 +2,66 @@
 #![tactic(auto)]
 
 ghost use Rattle.std.specs.Prelude.{◌≡◌, ◌∷◌};
-ghost use Rattle.matrix.specs.Poured.{page, written};
 ghost use Rattle.matrix.specs.Printed.{decimal, used_names, names_of_multipliers, names_of_row, names_of_rows};
+ghost use Rattle.print_numbers.specs.Shown.{Prints};
 
-use print_numbers::{put_byte, put_bytes, put_number};
+use print_numbers::Page;
 
 // A letter and a number.
-fn put_name(out: &mut [u8], place: usize, letter: u8, number: usize) -> usize
-    ensures { page out.new result ≡ written (letter ∷ decimal number) (page out.old place) }
+fn put_name(page: &mut Page, letter: u8, number: usize)
+    ensures { Prints page.old page.new (letter ∷ decimal number) }
 {
-    let to = put_byte(out, place, letter);
-    put_number(out, to, number as u64)
+    page.put_byte(letter);
+    page.put_number(number as u64);
 }
 
 // The equations with non-zero multipliers.
-pub fn names_of_multipliers(out: &mut [u8], place: usize, multipliers: &[i64]) -> usize
-    ensures { page out.new result ≡ written (names_of_multipliers multipliers.now) (page out.old place) }
+pub fn names_of_multipliers(page: &mut Page, multipliers: &[i64])
+    ensures { Prints page.old page.new (names_of_multipliers multipliers.now) }
 {
-    let mut to = place;
     let mut before = b'(';
-    let mut i = 0;
-    while i < multipliers.len() {
-        let z = multipliers[i];
-        i += 1;
-        if z != 0 {
-            to = put_byte(out, to, before);
-            to = put_name(out, to, b'e', i);
+    for (i, z) in multipliers.iter().enumerate() {
+        if *z != 0 {
+            page.put_byte(before);
+            put_name(page, b'e', i + 1);
             before = b' ';
         }
     }
-    put_bytes(out, to, b")\n")
+    page.put_bytes(b")\n");
 }
 
 // The equations in either set, each with a space behind it.
-fn used_names(out: &mut [u8], place: usize, m: usize, one: u64, other: u64) -> usize
-    ensures { page out.new result ≡ written (used_names 1 m one other) (page out.old place) }
+fn used_names(page: &mut Page, m: usize, mut one: u64, mut other: u64)
+    ensures { Prints page.old page.new (used_names 1 m one other) }
 {
-    let mut to = place;
-    let mut a = one;
-    let mut b = other;
-    let mut i = 0;
-    while i < m {
-        let uses = a % 2 + b % 2;
-        a = a / 2;
-        b = b / 2;
-        i += 1;
-        if uses != 0 {
-            to = put_name(out, to, b'e', i);
-            to = put_byte(out, to, b' ');
+    for i in 0..m {
+        if one % 2 == 1 || other % 2 == 1 {
+            put_name(page, b'e', i + 1);
+            page.put_byte(b' ');
         }
+        one /= 2;
+        other /= 2;
     }
-    to
 }
 
 // What one row in conflict uses, and the row.
-pub fn names_of_row(out: &mut [u8], place: usize, m: usize, i: usize, used: u64) -> usize
-    ensures { page out.new result ≡ written (names_of_row m i used) (page out.old place) }
+pub fn names_of_row(page: &mut Page, m: usize, i: usize, used: u64)
+    ensures { Prints page.old page.new (names_of_row m i used) }
 {
-    let mut to = put_byte(out, place, b'(');
-    to = used_names(out, to, m, used, 0);
-    to = put_name(out, to, b'i', i);
-    put_bytes(out, to, b")\n")
+    page.put_byte(b'(');
+    used_names(page, m, used, 0);
+    put_name(page, b'i', i);
+    page.put_bytes(b")\n");
 }
 
 // What two rows in conflict use, and the rows.
-pub fn names_of_rows(
-    out: &mut [u8],
-    place: usize,
-    m: usize,
-    i: usize,
-    j: usize,
-    one: u64,
-    other: u64,
-) -> usize
-    ensures { page out.new result ≡ written (names_of_rows m i j one other) (page out.old place) }
+pub fn names_of_rows(page: &mut Page, m: usize, i: usize, j: usize, one: u64, other: u64)
+    ensures { Prints page.old page.new (names_of_rows m i j one other) }
 {
-    let mut to = put_byte(out, place, b'(');
-    to = used_names(out, to, m, one, other);
-    to = put_name(out, to, b'i', i);
-    to = put_byte(out, to, b' ');
-    to = put_name(out, to, b'i', j);
-    put_bytes(out, to, b")\n")
+    page.put_byte(b'(');
+    used_names(page, m, one, other);
+    put_name(page, b'i', i);
+    page.put_byte(b' ');
+    put_name(page, b'i', j);
+    page.put_bytes(b")\n");
 }

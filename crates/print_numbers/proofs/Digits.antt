@@ -15,9 +15,11 @@ module _ (places x : ℕ) (n : places ≡ 0 → ⊥) where
   some : places ≡ suc (places - 1)
   some = omega arith
 
-  pub digits_last : x < 10 → decimal_in places x ≡ digit_byte x ∷ []
+  pub digits_last : x < 10 → decimal_in places x ≡ digit_byte (x % 10) ∷ []
   unfolding decimal_in
-  digits_last h = rw (some, lt-ltb x 10 h)
+  digits_last h =
+      let all : x % 10 ≡ x = omega arith in
+      rw (some, lt-ltb x 10 h, all)
 
   pub digits_more : 10 ≤ x → decimal_in places x ≡ decimal_in (places - 1) (x / 10) ++ digit_byte (x % 10) ∷ []
   unfolding decimal_in

@@ -1,3 +1,4 @@
--- Laws of digits and signs.
+-- Laws of printing, of digits and of signs.
+pub mod Printing
 mod Digits
-pub mod Signs
+mod Signs

@@ -1,105 +1,78 @@
-// Bytes and numbers, each written from a place of a lent page on; the answer is the place behind them. What finds no room is left
-// out.
+// Bytes and numbers, printed on a lent page.
 #![tactic(auto)]
 
-ghost use Rattle.std.specs.Prelude.{◌≡◌, [], ◌∷◌, ◌+◌, ◌<◌, pos, nat_abs};
+ghost use Rattle.std.specs.Prelude.{◌≡◌, [], ◌∷◌, pos};
 ghost use Rattle.std.specs.Int.Signed.{lt_z};
-ghost use Rattle.matrix.specs.Poured.{page, put, written};
 ghost use Rattle.matrix.specs.Printed.{decimal_in, decimal, turned, spaced, spaced_fields};
+ghost use Rattle.print_numbers.specs.Shown.{Prints};
 
-pub fn put_byte(out: &mut [u8], place: usize, b: u8) -> usize
-    ensures { page out.new result ≡ put b (page out.old place) }
-{
-    if place < out.len() {
-        out[place] = b;
-        return place + 1;
-    }
-    place
+// A lent page and the place of the next byte. What finds no room is left out.
+#[derive(Drop)]
+pub struct Page<'a> {
+    pub cells: &'a mut [u8],
+    pub place: usize,
 }
 
-// All these bytes.
-pub fn put_bytes(out: &mut [u8], place: usize, bytes: &[u8]) -> usize
-    ensures { page out.new result ≡ written bytes.now (page out.old place) }
-{
-    let mut to = place;
-    let mut i = 0;
-    while i < bytes.len() {
-        to = put_byte(out, to, bytes[i]);
-        i += 1;
+impl Page<'_> {
+    pub fn put_byte(&mut self, b: u8)
+        ensures { Prints self.old self.new (b ∷ []) }
+    {
+        if self.place < self.cells.len() {
+            self.cells[self.place] = b;
+            self.place += 1;
+        }
     }
-    to
-}
 
-fn digit(x: u64) -> u8
-    requires { x < 10 }
-    ensures { result ≡ 48 + x }
-{
-    48 + x as u8
-}
-
-// In so many places at most.
-fn put_digits(out: &mut [u8], place: usize, x: u64, places: usize) -> usize
-    ensures { page out.new result ≡ written (decimal_in places x) (page out.old place) }
-{
-    if places == 0 {
-        return place;
+    pub fn put_bytes(&mut self, bytes: &[u8])
+        ensures { Prints self.old self.new bytes.now }
+    {
+        for b in bytes {
+            self.put_byte(*b);
+        }
     }
-    if x < 10 {
-        return put_byte(out, place, digit(x));
-    }
-    let to = put_digits(out, place, x / 10, places - 1);
-    put_byte(out, to, digit(x % 10))
-}
 
-pub fn put_number(out: &mut [u8], place: usize, x: u64) -> usize
-    ensures { page out.new result ≡ written (decimal x) (page out.old place) }
-{
-    put_digits(out, place, x, 20)
-}
-
-// The absolute value, the least number's too.
-fn size(z: i64) -> u64
-    ensures { result ≡ nat_abs z }
-{
-    if z < 0 {
-        return whole::magnitude(z + 1) + 1;
+    // In so many places at most.
+    fn put_digits(&mut self, x: u64, places: usize)
+        ensures { Prints self.old self.new (decimal_in places x) }
+    {
+        if places == 0 {
+            return;
+        }
+        if 10 <= x {
+            self.put_digits(x / 10, places - 1);
+        }
+        self.put_byte(b'0' + (x % 10) as u8);
     }
-    whole::magnitude(z)
+
+    pub fn put_number(&mut self, x: u64)
+        ensures { Prints self.old self.new (decimal x) }
+    {
+        self.put_digits(x, 20);
+    }
+
+    // A number, or its opposite, behind a space.
+    pub fn put_spaced(&mut self, z: i64, opposite: bool)
+        ensures { Prints self.old self.new (spaced (turned opposite z ∷ [])) }
+    {
+        self.put_byte(b' ');
+        if below_zero(z, opposite) {
+            self.put_byte(b'-');
+        }
+        self.put_number(z.unsigned_abs());
+    }
+
+    // A count behind a space.
+    pub fn put_field(&mut self, x: usize)
+        ensures { Prints self.old self.new (spaced_fields (x ∷ [])) }
+    {
+        self.put_byte(b' ');
+        self.put_number(x as u64);
+    }
 }
 
 // Whether z, or its opposite, is below 0.
 fn below_zero(z: i64, opposite: bool) -> bool
     ensures { result ≡ lt_z (turned opposite z) (pos 0) }
 {
-    if opposite {
-        return 0 < z;
-    }
-    z < 0
-}
-
-// A number, or its opposite, behind a space.
-pub fn put_spaced(out: &mut [u8], place: usize, z: i64, opposite: bool) -> usize
-    ensures { page out.new result ≡ written (spaced (turned opposite z ∷ [])) (page out.old place) }
-{
-    let to = put_byte(out, place, b' ');
-    if below_zero(z, opposite) {
-        let digits = put_byte(out, to, b'-');
-        return put_number(out, digits, size(z));
-    }
-    put_number(out, to, size(z))
-}
-
-// A count behind a space.
-pub fn put_field(out: &mut [u8], place: usize, x: usize) -> usize
-    ensures { page out.new result ≡ written (spaced_fields (x ∷ [])) (page out.old place) }
-{
-    let to = put_byte(out, place, b' ');
-    put_number(out, to, x as u64)
-}
-
-pub fn put_two_fields(out: &mut [u8], place: usize, x: usize, y: usize) -> usize
-    ensures { page out.new result ≡ written (spaced_fields (x ∷ y ∷ [])) (page out.old place) }
-{
-    let to = put_field(out, place, x);
-    put_field(out, to, y)
+    if opposite { 0 < z } else { z < 0 }
 }

@@ -5,95 +5,76 @@ ghost use Rattle.std.specs.Prelude.{◌≡◌, [], ◌++◌, suc, ◌-◌, ◌�
 ghost use Rattle.matrix.specs.Poured.{page as page_of, written};
 ghost use Rattle.matrix.specs.Printed.{unsat, open_word, names_of_multipliers, names_of_row, names_of_rows, solved_matrix, tightened_matrix, printed};
 ghost use Rattle.outcomes.specs.Answered.{tables as tables_of};
+ghost use Rattle.print_numbers.specs.Shown.{Prints};
 
+use print_errors::put_error;
 use print_matrices::{solved_matrix, tightened_matrix};
 use print_names::{names_of_multipliers, names_of_row, names_of_rows};
-use print_numbers::put_bytes;
-use rules::Outcome;
-
-fn used_at(used: &[u64], at: usize) -> u64
-    ensures { result ≡ get_or used.now at 0 }
-{
-    if at < used.len() {
-        return used[at];
-    }
-    0
-}
+use print_numbers::Page;
+use rules::{Outcome, System};
 
 // The equations that row i used, i counted from 1.
 fn used_by(used: &[u64], i: usize) -> u64
     ensures { result ≡ get_or used.now (i - 1) 0 }
 {
-    if i == 0 {
-        return used_at(used, 0);
-    }
-    used_at(used, i - 1)
-}
-
-fn put_unsat(page: &mut [u8]) -> usize
-    ensures { page_of page.new result ≡ written unsat (page_of page.old 0) }
-{
-    put_bytes(page, 0, b"unsat\n")
+    used.get(i.saturating_sub(1)).copied().unwrap_or(0)
 }
 
 // Nothing more is known of an open system if it has inequalities.
-fn put_open(page: &mut [u8], k: usize) -> usize
-    ensures { page_of page.new result ≡ written (open_word k) (page_of page.old 0) }
+fn put_open(page: &mut Page, k: usize)
+    ensures { Prints page.old page.new (open_word k) }
 {
     if k == 0 {
-        return put_bytes(page, 0, b"sat\n");
+        page.put_bytes(b"sat\n");
+    } else {
+        page.put_bytes(b"unknown\n");
     }
-    put_bytes(page, 0, b"unknown\n")
 }
 
+#[tactic(auto, using(print_numbers::proofs::Printing::both))]
 fn print_open(
+    page: &mut Page,
     n: usize,
     k: usize,
     substitution: &[i64],
     marks: &[u8],
     tightened: &[i64],
-    page: &mut [u8],
-) -> usize
+)
     requires { (n ≤ 32) × (k ≤ 64) × (length substitution.now ≡ n * suc n) × (length marks.now ≡ n) × (length tightened.now ≡ k * suc n) }
-    ensures { page_of page.new result ≡ written (open_word k ++ (solved_matrix n marks.now substitution.now ++ tightened_matrix n k marks.now tightened.now)) (page_of page.old 0) }
+    ensures { Prints page.old page.new (open_word k ++ (solved_matrix n marks.now substitution.now ++ tightened_matrix n k marks.now tightened.now)) }
 {
-    let mut to = put_open(page, k);
-    to = solved_matrix(page, to, n, marks, substitution);
-    tightened_matrix(page, to, n, k, marks, tightened)
+    put_open(page, k);
+    solved_matrix(page, n, marks, substitution);
+    tightened_matrix(page, n, k, marks, tightened);
 }
 
-fn print_equations(m: usize, conflict: &[i64], page: &mut [u8]) -> usize
+fn print_equations(page: &mut Page, m: usize, conflict: &[i64])
     requires { length conflict.now ≡ suc m }
-    ensures { page_of page.new result ≡ written (unsat ++ names_of_multipliers (take m conflict.now)) (page_of page.old 0) }
+    ensures { Prints page.old page.new (unsat ++ names_of_multipliers (take m conflict.now)) }
 {
-    let to = put_unsat(page);
-    names_of_multipliers(page, to, &conflict[..m])
+    page.put_bytes(b"unsat\n");
+    names_of_multipliers(page, &conflict[..m]);
 }
 
-fn print_row(m: usize, i: usize, used: &[u64], page: &mut [u8]) -> usize
+fn print_row(page: &mut Page, m: usize, i: usize, used: &[u64])
     requires { m ≤ 32 }
-    ensures { page_of page.new result ≡ written (unsat ++ names_of_row m i (get_or used.now (i - 1) 0)) (page_of page.old 0) }
+    ensures { Prints page.old page.new (unsat ++ names_of_row m i (get_or used.now (i - 1) 0)) }
 {
-    let one = used_by(used, i);
-    let to = put_unsat(page);
-    names_of_row(page, to, m, i, one)
+    page.put_bytes(b"unsat\n");
+    names_of_row(page, m, i, used_by(used, i));
 }
 
-fn print_rows(m: usize, i: usize, j: usize, used: &[u64], page: &mut [u8]) -> usize
+fn print_rows(page: &mut Page, m: usize, i: usize, j: usize, used: &[u64])
     requires { m ≤ 32 }
-    ensures { page_of page.new result ≡ written (unsat ++ names_of_rows m i j (get_or used.now (i - 1) 0) (get_or used.now (j - 1) 0)) (page_of page.old 0) }
+    ensures { Prints page.old page.new (unsat ++ names_of_rows m i j (get_or used.now (i - 1) 0) (get_or used.now (j - 1) 0)) }
 {
-    let one = used_by(used, i);
-    let other = used_by(used, j);
-    let to = put_unsat(page);
-    names_of_rows(page, to, m, i, j, one, other)
+    page.put_bytes(b"unsat\n");
+    names_of_rows(page, m, i, j, used_by(used, i), used_by(used, j));
 }
 
 // What is printed of an outcome and the result tables.
 pub fn print(
-    n: usize,
-    m: usize,
-    k: usize,
+    system: System,
     outcome: Outcome,
     substitution: &[i64],
     marks: &[u8],
@@ -102,14 +83,21 @@ pub fn print(
     used: &[u64],
     page: &mut [u8],
 ) -> usize
-    requires { (n ≤ 32) × (m ≤ 32) × (k ≤ 64) × (length substitution.now ≡ n * suc n) × (length marks.now ≡ n) × (length conflict.now ≡ suc m) × (length tightened.now ≡ k * suc n) }
-    ensures { page_of page.new result ≡ written (printed n m k outcome (tables_of substitution.now marks.now [] [] conflict.now tightened.now used.now)) (page_of page.old 0) }
+    requires size { (system.n ≤ 32) × (system.m ≤ 32) × (system.k ≤ 64) }
+    requires lengths { (length substitution.now ≡ system.n * suc system.n) × (length marks.now ≡ system.n) × (length conflict.now ≡ suc system.m) × (length tightened.now ≡ system.k * suc system.n) }
+    ensures { page_of page.new result ≡ written (printed system.n system.m system.k outcome (tables_of substitution.now marks.now [] [] conflict.now tightened.now used.now)) (page_of page.old 0) }
 {
+    let System { n, m, k } = system;
+    let mut sheet = Page {
+        cells: page,
+        place: 0,
+    };
     match outcome {
-        Outcome::Open { steps: _ } => print_open(n, k, substitution, marks, tightened, page),
-        Outcome::EquationConflict { row: _, steps: _ } => print_equations(m, conflict, page),
-        Outcome::OneRowConflict { i, steps: _ } => print_row(m, i, used, page),
-        Outcome::TwoRowConflict { i, j, steps: _ } => print_rows(m, i, j, used, page),
-        Outcome::Refused(refusal) => print_errors::error(page, 0, refusal),
+        Outcome::Open { .. } => print_open(&mut sheet, n, k, substitution, marks, tightened),
+        Outcome::EquationConflict { .. } => print_equations(&mut sheet, m, conflict),
+        Outcome::OneRowConflict { i, .. } => print_row(&mut sheet, m, i, used),
+        Outcome::TwoRowConflict { i, j, .. } => print_rows(&mut sheet, m, i, j, used),
+        Outcome::Refused(refusal) => put_error(&mut sheet, refusal),
     }
+    sheet.place
 }

@@ -12,6 +12,7 @@ use Rattle.rules.specs.declared.Refusal.TheVariants.{OutOfRange, WrongLength}
 use Rattle.rules.specs.declared.Outcome.TheVariants.{Refused}
 use Rattle.rules.specs.Numbers.{kind, of_outcome}
 use Rattle.rules.specs.Elimination.{elimination}
+use Rattle.rules.specs.declared.Table.TheVariants.{Equations, Inequalities}
 use Rattle.rules.specs.Outcomes.{Results, bad_entry, blank, in_range, right_lengths, after_run, solve}
 use Rattle.promises.specs.Solutions.{Unsolvable}
 use Rattle.promises.specs.Refusals.{in_equations, in_inequalities, one, two, three}
@@ -32,9 +33,9 @@ promised n m k equations inequalities given =
             | true ↦ elim c [
               | true ↦ elim d [
                 | true ↦ after_run n m k (rows_of (suc n) k inequalities) (elimination n m (rows_of (suc n) m equations))
-                | false ↦ record { outcome = Refused (bad_entry (suc n) 1 inequalities); results = blank n m k }
+                | false ↦ record { outcome = Refused (bad_entry (suc n) Inequalities inequalities); results = blank n m k }
               ]
-              | false ↦ record { outcome = Refused (bad_entry (suc n) 0 equations); results = blank n m k }
+              | false ↦ record { outcome = Refused (bad_entry (suc n) Equations equations); results = blank n m k }
             ]
             | false ↦ record { outcome = Refused WrongLength; results = given }
           ]

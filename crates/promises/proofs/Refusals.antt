@@ -12,6 +12,7 @@ use Rattle.whole.specs.Limit.{W, within}
 use Rattle.rows.specs.Row.{at, all_within, bounded, first_beyond}
 use Rattle.rows.specs.Table.{Wide}
 use Rattle.rows.proofs.Bounded.{and_left, and_right, and_both, bounded_at}
+use Rattle.rules.specs.declared.Table.{Table}
 use Rattle.rules.specs.declared.Refusal.TheVariants.{BadEntry}
 use Rattle.rules.specs.Elimination.{State, Ended, too_large, finished, elimination, run}
 use Rattle.rules.specs.Inequalities.{sums, first_row}
@@ -87,7 +88,7 @@ module _ {width count row column : ℕ} {numbers : List ℤ} (first : FirstBad w
       go false e = refl
 
   -- and its row and column are those of the refusal
-  pub bad-entry : (table : ℕ) → bad_entry width table numbers ≡ BadEntry table row column
+  pub bad-entry : (table : Table) → bad_entry width table numbers ≡ BadEntry table row column
   unfolding bad_entry
   bad-entry table =
       ap (λ i. BadEntry table (suc (i / width)) (suc (i % width))) (beyond-is numbers p first.bad first.before)

@@ -15,6 +15,7 @@ use Rattle.rules.specs.Outcomes.{Results, Answer, after_run, with_inequalities, 
 use Rattle.promises.specs.Refusals.{Sized, Taken, Due, in_equations, in_inequalities, one, two, three, four, five}
 use Rattle.promises.specs.Answers.{Says, untouched, zeroed}
 use Rattle.promises.proofs.Chosen.{chosen}
+use Rattle.rules.specs.declared.Table.TheVariants.{Equations, Inequalities}
 use Rattle.promises.proofs.Refusals.{bad-table, bad-entry, large-listed, large-lowest}
 use Rattle.promises.proofs.Answers.{promised}
 
@@ -38,9 +39,9 @@ module _ (n m k : ℕ) (equations inequalities : List ℤ) (given : Results) whe
   given-due (one out) = ap numbered (chosen _ _ out)
   given-due (two range wrong) = ap numbered (chosen _ _ range ∙ chosen _ _ wrong)
   given-due (three checks (in_equations first)) =
-      ap numbered (sized checks ∙ chosen _ _ (bad-table first)) ∙ ap (λ refusal. 4 ∷ of_refusal refusal) (bad-entry first 0)
+      ap numbered (sized checks ∙ chosen _ _ (bad-table first)) ∙ ap (λ refusal. 4 ∷ of_refusal refusal) (bad-entry first Equations)
   given-due (three checks (in_inequalities within first)) =
-      ap numbered (sized checks ∙ chosen _ _ within ∙ chosen _ _ (bad-table first)) ∙ ap (λ refusal. 4 ∷ of_refusal refusal) (bad-entry first 1)
+      ap numbered (sized checks ∙ chosen _ _ within ∙ chosen _ _ (bad-table first)) ∙ ap (λ refusal. 4 ∷ of_refusal refusal) (bad-entry first Inequalities)
   given-due (four taken first) =
       ap numbered
       (entered taken ∙ ap (after_run n m k (rows_of (suc n) k inequalities)) (large-listed n m (rows_of (suc n) m equations) first))

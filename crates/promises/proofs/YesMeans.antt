@@ -14,8 +14,10 @@ use Rattle.rows.specs.Row.{at, all_within, first_beyond}
 use Rattle.rows.specs.Table.{rows_of}
 use Rattle.rows.proofs.Bounded.{and_left, and_right, and_both}
 use Rattle.rows.proofs.TableLaws.{wide-rows_of}
+use Rattle.rules.specs.declared.Refusal.{Refusal}
 use Rattle.rules.specs.declared.Refusal.TheVariants.{OutOfRange, WrongLength, BadEntry}
-use Rattle.rules.specs.declared.Verdict.TheVariants.{Yes, No, NotChecked}
+use Rattle.std.specs.Prelude.{Result, Ok, Err}
+use Rattle.rules.specs.declared.Table.TheVariants.{Equations, Multipliers}
 use Rattle.rules.specs.Numbers.{kind, of_verdict}
 use Rattle.rules.specs.Outcomes.{in_range, bad_entry}
 use Rattle.rules.specs.Checker.{refutes, good_d, judged, check}
@@ -23,6 +25,9 @@ use Rattle.promises.specs.Solutions.{Unsolvable}
 use Rattle.promises.specs.Verdicts.{Checkable}
 use Rattle.promises.proofs.Chosen.{chosen}
 use Rattle.promises.proofs.Checked.{checked}
+
+answered : Bool → Result Bool Refusal
+answered b = Ok b
 
 -- a refusal is no yes
 no-yes : {A : Type 0} {refusal : List ℕ} → 4 ∷ refusal ≡ 1 ∷ [] → A
@@ -47,14 +52,14 @@ module _ (n m : ℕ) (equations table : List ℤ) where
             | true ↦ elim b [
               | true ↦ elim c [
                 | true ↦ elim d [
-                  | true ↦ elim e [ true ↦ elim f [ true ↦ Yes | false ↦ No ] | false ↦ NotChecked (BadEntry 2 1 (suc m)) ]
-                  | false ↦ NotChecked (BadEntry 2 1 (suc (first_beyond (take m table))))
+                  | true ↦ elim e [ true ↦ Ok f | false ↦ Err (BadEntry Multipliers 1 (suc m)) ]
+                  | false ↦ Err (BadEntry Multipliers 1 (suc (first_beyond (take m table))))
                 ]
-                | false ↦ NotChecked (bad_entry (suc n) 0 equations)
+                | false ↦ Err (bad_entry (suc n) Equations equations)
               ]
-              | false ↦ NotChecked WrongLength
+              | false ↦ Err WrongLength
             ]
-            | false ↦ NotChecked OutOfRange
+            | false ↦ Err OutOfRange
           ])
           ≡ 1 ∷ []
           → (a ≡ true) × (b ≡ true) × (c ≡ true) × (d ≡ true) × (e ≡ true) × (f ≡ true)
@@ -68,7 +73,7 @@ module _ (n m : ℕ) (equations table : List ℤ) where
 
   pub yes-exactly : (of_verdict (check n m equations table) ≡ 1 ∷ [])
       ↔ (Checkable n m equations table × (refutes n (take m table) (nat_abs (at table m)) (rows_of (suc n) m equations) ≡ true))
-  unfolding check judged of_verdict
+  unfolding check judged of_verdict answered
   yes-exactly = (
     λ y.
         let (range, lengths, entries, multipliers, d, refuted) = passed y in (
@@ -89,7 +94,7 @@ module _ (n m : ℕ) (equations table : List ℤ) where
         ap of_verdict
         (chosen _ _ c.range
         ∙ chosen _ _ (and_both (eq-eqb (length equations) (m * suc n) c.lengths.0) (eq-eqb (length table) (suc m) c.lengths.1))
-        ∙ chosen _ _ c.entries ∙ chosen _ _ c.multipliers ∙ chosen _ _ c.d ∙ chosen Yes No h.1),
+        ∙ chosen _ _ c.entries ∙ chosen _ _ c.multipliers ∙ chosen _ _ c.d ∙ ap answered h.1),
   )
 
   pub yes-means : of_verdict (check n m equations table) ≡ 1 ∷ [] → Unsolvable n (rows_of (suc n) m equations)

@@ -12,11 +12,8 @@ pub fn scale_into(into: &mut [i64], row: &[i64], c: i64)
     requires { (length into.old ≡ length row.now) × (all_within row.now ≡ true) × (nat_abs c ≤ W) }
     ensures { into.new ≡ scaled c row.now }
 {
-    let mut i = 0;
-    while i < row.len() {
-        let z = row[i];
-        into[i] = multiples::product(c, z);
-        i += 1;
+    for (i, z) in row.iter().enumerate() {
+        into[i] = multiples::product(c, *z);
     }
 }
 

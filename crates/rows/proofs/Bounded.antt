@@ -9,14 +9,20 @@ use borrow.Author.Tests.{leb-true, le-leb}
 use lib.Dec.{leb, eqb, eqb-suc-suc, eqb-zero-suc}
 use lib.ListN.{length, take, drop, set, replicate, take-append-drop}
 use lib.IntN.{ℤ, pos, neg_ℤ, nat_abs, ◌-ℤ◌, ◌*ℤ◌}
+use mir.Facts.{to_z-of_z}
+use mir.Syntax.{w64}
+use mir.Val.{to_z, of_z}
+use Rattle.std.specs.List.{list_all}
 use Rattle.whole.specs.Limit.{W, within}
 use Rattle.whole.specs.Gcd.{gcd}
 use Rattle.whole.specs.Quotient.{quotient, exactly}
+use Rattle.whole.proofs.Bounds.{fits-abs}
 use Rattle.whole.proofs.Integers.{nat_abs-neg, nat_abs-*, nat_abs--}
 use Rattle.whole.proofs.GcdLaws.{gcd-zero-l, gcd-le}
 use Rattle.whole.proofs.QuotientLaws.{quotient_le, exactly-le}
 use Rattle.rows.specs.Row.{at, zeros, unit_row, gcd_of, less, quotients, divided, gathered, bounded, all_within, first_beyond}
 use Rattle.rows.specs.Table.{flat, rows_of}
+use Rattle.rows.proofs.Sweep.{Swept, swept-read}
 
 -- ---- a conjunction that is true
 pub and_left : (a b : Bool) → a && b ≡ true → a ≡ true
@@ -36,6 +42,15 @@ unfolding bounded
 bounded_at B [] i e = zero-le
 bounded_at B (a ∷ row) zero e = leb-true (nat_abs a) B (and_left (leb (nat_abs a) B) (bounded B row) e)
 bounded_at B (a ∷ row) (suc i) e = bounded_at B row i (and_right (leb (nat_abs a) B) (bounded B row) e)
+
+-- a number of a row is read back from its bits as it is
+pub bounded-back : (B : ℕ) (row : List ℤ) (i : ℕ) → bounded B row ≡ true → B < 9223372036854775808 → to_z w64 (of_z w64 (at row i)) ≡ at row i
+bounded-back B row i e h = to_z-of_z (fits-abs (at row i) (omega (arith, bounded_at B row i e)))
+
+-- the same in a sweep, where the number that is read is the one that stood there at first
+pub swept-back : (B : ℕ) {row now goal rest : List ℤ} {i : ℕ} → bounded B row ≡ true → B < 9223372036854775808 → Swept row now goal i rest
+    → to_z w64 (of_z w64 (at now i)) ≡ at row i
+swept-back B {row} {i = i} e h s = ap (λ (z : ℤ). to_z w64 (of_z w64 z)) (swept-read (pos 0) s) ∙ bounded-back B row i e h
 
 pub bounded-from : (B : ℕ) (row : List ℤ) → ((i : ℕ) → i < length row → nat_abs (at row i) ≤ B) → bounded B row ≡ true
 unfolding bounded
@@ -149,7 +164,13 @@ bounded-gathered A C B row (c ∷ cs) (r ∷ rows) e f g =
     bounded-mono (A + C * B + length cs * (C * B)) (A + suc (length cs) * (C * B)) (gathered row (c ∷ cs) (r ∷ rows))
     (omega (arith, suc-mul (length cs) (C * B))) more
 
--- ---- all numbers are within the limit where none is found beyond it
+-- ---- all numbers are within the limit where each test says so
+pub within-all : (row : List ℤ) → all_within row ≡ list_all within row
+unfolding bounded
+within-all [] = refl
+within-all (a ∷ row) = ap (λ t. within a && t) (within-all row)
+
+-- ---- and where none is found beyond it
 pub bounded-first : (row : List ℤ) → all_within row ≡ eqb (first_beyond row) (length row)
 unfolding bounded first_beyond
 bounded-first [] = refl

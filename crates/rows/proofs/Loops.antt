@@ -1,6 +1,6 @@
 -- Each definition of a row from column i on, as the loops meet it: what is left past the last column, and one column more.
 use mathlib.Core.Path.{◌≡◌, refl, sym, ap, ◌∙◌}
-use mathlib.Core.Bool.{Bool, true, false, ◌&&◌, cond, and-false, or-true}
+use mathlib.Core.Bool.{Bool, true, false, not, ◌&&◌, cond, and-false, or-true}
 use mathlib.Core.Logic.{◌⊎◌, inl, inr}
 use mathlib.Core.List.{List, [], ◌∷◌}
 use Prim.Native.Nat.{ℕ, suc, ◌+◌, ◌≤◌, ◌<◌}
@@ -10,10 +10,10 @@ use lib.Dec.{eqb}
 use lib.ListN.{length, drop, drop_of_length-le}
 use lib.Seq.{get_or-drop}
 use lib.IntN.{ℤ, pos, nat_abs, ◌+ℤ◌, ◌-ℤ◌, ◌*ℤ◌}
+use Rattle.std.specs.List.{position_or_len}
 use Rattle.whole.specs.Limit.{within}
 use Rattle.whole.specs.Gcd.{gcd}
 use Rattle.whole.specs.Quotient.{quotient, exactly}
-use Rattle.whole.proofs.Integers.{nat_abs-zero}
 use Rattle.rows.specs.Row.{at, less, gcd_of, leads, smallest, quotients, divided, opposite, first_beyond}
 use Rattle.rows.proofs.Lists.{tail_at}
 
@@ -56,18 +56,15 @@ unfolding gcd_of
 gcd_of-more row i h = rw (tail_at row i (pos 0) h)
 
 -- ---- first_beyond
-pub beyond-none : (row : List ℤ) (i : ℕ) → length row ≤ i → first_beyond (drop i row) ≡ 0
+pub beyond-position : (row : List ℤ) → first_beyond row ≡ position_or_len (λ z. not (within z)) row
 unfolding first_beyond
-beyond-none row i h = rw (drop_of_length-le row h)
-
-pub beyond-here : (row : List ℤ) (i : ℕ) → i < length row → within (at row i) ≡ false → first_beyond (drop i row) ≡ 0
-unfolding first_beyond
-beyond-here row i h e = rw (tail_at row i (pos 0) h, e)
-
-pub beyond-later : (row : List ℤ) (i : ℕ) → i < length row → within (at row i) ≡ true
-    → first_beyond (drop i row) ≡ suc (first_beyond (drop (i + 1) row))
-unfolding first_beyond
-beyond-later row i h e = rw (tail_at row i (pos 0) h, e)
+beyond-position [] = refl
+beyond-position (a ∷ row) = go (within a) (beyond-position row)
+  where
+    go : (t : Bool) → first_beyond row ≡ position_or_len (λ z. not (within z)) row
+        → cond t (suc (first_beyond row)) 0 ≡ cond (not (not t)) (1 + position_or_len (λ z. not (within z)) row) 0
+    go true e = omega (arith, e)
+    go false e = refl
 
 -- ---- opposite
 pub opposite-lengths : (row other : List ℤ) → (length row ≡ length other → ⊥) → opposite row other ≡ false
@@ -80,22 +77,6 @@ opposite-lengths (a ∷ row) (b ∷ other) h = go (eqb (nat_abs (a +ℤ b)) 0) (
     go : (t : Bool) → opposite row other ≡ false → t && opposite row other ≡ false
     go true e = e
     go false e = refl
-
-pub opposite-none : (row other : List ℤ) (i : ℕ) → length row ≤ i → length other ≤ i → opposite (drop i row) (drop i other) ≡ true
-unfolding opposite
-opposite-none row other i h k = rw (drop_of_length-le row h, drop_of_length-le other k)
-
-pub opposite-here : (row other : List ℤ) (i : ℕ) → i < length row → i < length other → (at row i +ℤ at other i ≡ pos 0 → ⊥)
-    → opposite (drop i row) (drop i other) ≡ false
-unfolding opposite
-opposite-here row other i h k n =
-    let s = at row i +ℤ at other i in
-    rw (tail_at row i (pos 0) h, tail_at other i (pos 0) k, ne_eqb (nat_abs s) 0 (λ e. n (nat_abs-zero s e)))
-
-pub opposite-later : (row other : List ℤ) (i : ℕ) → i < length row → i < length other → at row i +ℤ at other i ≡ pos 0
-    → opposite (drop i row) (drop i other) ≡ opposite (drop (i + 1) row) (drop (i + 1) other)
-unfolding opposite
-opposite-later row other i h k e = rw (tail_at row i (pos 0) h, tail_at other i (pos 0) k, e)
 
 -- ---- smallest, from the last column to the first
 pub smallest-none : (row : List ℤ) → smallest (drop (length row) row) ≡ 0

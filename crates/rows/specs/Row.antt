@@ -1,5 +1,5 @@
 -- "A row has n+1 numbers: the coefficients, then the constant." The constant is one more coefficient: a point is x_1..x_n and then 1.
-use Rattle.std.specs.Prelude.{Bool, true, false, not, ◌&&◌, ◌||◌, cond, List, [], ◌∷◌, map, ℕ, suc, leb, eqb, get_or, set, replicate, ℤ, pos, neg_ℤ, nat_abs, ◌+ℤ◌, ◌-ℤ◌, ◌*ℤ◌}
+use Rattle.std.specs.Prelude.{Option, Some, None, Bool, true, false, not, ◌&&◌, ◌||◌, cond, List, [], ◌∷◌, map, ℕ, suc, leb, ltb, eqb, get_or, set, replicate, ℤ, pos, neg_ℤ, nat_abs, ◌+ℤ◌, ◌-ℤ◌, ◌*ℤ◌}
 use Rattle.whole.specs.Limit.{W, within}
 use Rattle.whole.specs.Gcd.{gcd}
 use Rattle.whole.specs.Quotient.{quotient, exactly}
@@ -89,3 +89,7 @@ all_within row = bounded W row
 unfoldable pub first_beyond : List ℤ → ℕ
 first_beyond [] = 0
 first_beyond (a ∷ row) = let k = first_beyond row in cond (within a) (suc k) 0
+
+-- a place in a row of so many numbers: none where it is not below the count
+abbrev pub found : ℕ → ℕ → Option ℕ
+found count k = cond (ltb k count) (Some k) None

@@ -1,6 +1,7 @@
 -- Systems of every kind of outcome, with the answers of the independent program: made by `python3 independent/theorem.py`.
 use mathlib.Core.Path.{◌≡◌, refl}
 use mathlib.Core.List.{List, [], ◌∷◌, map}
+use Rattle.rules.specs.declared.Table.TheVariants.{Equations, Inequalities}
 use Rattle.rules.specs.declared.Refusal.TheVariants.{BadEntry, TooLarge, LargeSum}
 use Rattle.rules.specs.declared.Outcome.TheVariants.{Open, EquationConflict, OneRowConflict, TwoRowConflict}
 use Rattle.rules.proofs.Case.{Case, p, m, answered, filled, unmet, refused}
@@ -30,7 +31,7 @@ systems =
     ∷ (unmet 2 3 1 (p 19683 ∷ m 39364 ∷ m 78732 ∷ p 4374 ∷ p 2187 ∷ p 4374 ∷ p 432 ∷ m 432 ∷ m 864 ∷ []) (m 43 ∷ p 44 ∷ m 12 ∷ []) (EquationConflict 2 4) (p 107606961 ∷ p 1 ∷ p 0 ∷ p 215224857 ∷ []))
     ∷ (unmet 2 2 0 (m 987 ∷ p 610 ∷ p 0 ∷ m 1 ∷ p 1 ∷ p 2 ∷ []) [] (EquationConflict 2 14) (p 144 ∷ p 1 ∷ p 377 ∷ []))
     ∷ (filled 2 0 4 [] (p 4 ∷ p 1 ∷ p 3 ∷ m 4 ∷ m 1 ∷ m 3 ∷ p 0 ∷ m 8 ∷ p 9 ∷ p 0 ∷ p 8 ∷ m 9 ∷ []) (TwoRowConflict 3 4 0) (p 1 ∷ p 0 ∷ p 0 ∷ p 0 ∷ p 1 ∷ p 0 ∷ []) (1 ∷ 1 ∷ []) (p 1 ∷ p 0 ∷ p 0 ∷ p 0 ∷ p 1 ∷ p 0 ∷ []) (p 0 ∷ p 0 ∷ []) (p 4 ∷ p 1 ∷ p 3 ∷ m 4 ∷ m 1 ∷ m 3 ∷ p 0 ∷ m 1 ∷ p 2 ∷ p 0 ∷ p 1 ∷ m 1 ∷ []) (0 ∷ 0 ∷ 0 ∷ 0 ∷ []))
-    ∷ (refused 2 0 3 [] (p 2 ∷ p 1 ∷ m 6 ∷ m 1 ∷ p 3 ∷ m 9999999999 ∷ m 2 ∷ m 6 ∷ m 4 ∷ []) (BadEntry 1 2 3))
+    ∷ (refused 2 0 3 [] (p 2 ∷ p 1 ∷ m 6 ∷ m 1 ∷ p 3 ∷ m 9999999999 ∷ m 2 ∷ m 6 ∷ m 4 ∷ []) (BadEntry Inequalities 2 3))
     ∷ (refused 5 3 1 (p 0 ∷ m 3 ∷ p 2 ∷ p 4 ∷ p 1 ∷ p 4 ∷ p 3 ∷ p 4 ∷ m 1 ∷ m 3 ∷ m 4 ∷ m 3 ∷ p 268435455 ∷ p 268435455 ∷ p 268435455 ∷ p 1 ∷ p 268435455 ∷ p 134217727 ∷ []) (p 3 ∷ m 1 ∷ p 1 ∷ p 1 ∷ p 3 ∷ m 1 ∷ []) (TooLarge 1 0))
     ∷ (refused 3 2 2 (p 0 ∷ m 4 ∷ m 1 ∷ m 2 ∷ p 4 ∷ p 2 ∷ m 3 ∷ p 4 ∷ []) (m 268435455 ∷ p 0 ∷ m 268435455 ∷ p 0 ∷ p 268435455 ∷ p 268435455 ∷ p 134217727 ∷ m 268435455 ∷ []) (LargeSum 1))
     ∷ (filled 1 1 4 (p 0 ∷ p 0 ∷ []) (p 0 ∷ p 1 ∷ p 1 ∷ m 1 ∷ p 0 ∷ p 0 ∷ m 1 ∷ m 1 ∷ []) (OneRowConflict 1 0) (p 1 ∷ p 0 ∷ []) (1 ∷ []) (p 1 ∷ p 0 ∷ []) (p 0 ∷ p 0 ∷ []) (p 0 ∷ p 1 ∷ p 1 ∷ m 1 ∷ p 0 ∷ p 0 ∷ m 1 ∷ m 1 ∷ []) (0 ∷ 0 ∷ 0 ∷ 0 ∷ []))
@@ -41,7 +42,7 @@ systems =
     ∷ (refused 4 2 0 (p 93312 ∷ p 0 ∷ p 93312 ∷ p 46657 ∷ p 186624 ∷ p 81 ∷ m 162 ∷ p 81 ∷ p 162 ∷ m 81 ∷ []) [] (TooLarge 2 4))
     ∷ (filled 3 1 0 (m 102334155 ∷ p 2 ∷ p 63245986 ∷ p 6 ∷ []) [] (Open 2) (p 1 ∷ p 2 ∷ p 0 ∷ p 0 ∷ p 51167077 ∷ p 102334155 ∷ m 31622993 ∷ m 3 ∷ p 0 ∷ p 0 ∷ p 1 ∷ p 0 ∷ []) (0 ∷ 1 ∷ 1 ∷ []) (p 102334155 ∷ m 2 ∷ m 63245986 ∷ m 6 ∷ m 51167077 ∷ p 1 ∷ p 31622993 ∷ p 3 ∷ p 0 ∷ p 0 ∷ p 1 ∷ p 0 ∷ []) (m 1 ∷ p 1 ∷ p 0 ∷ p 0 ∷ p 0 ∷ p 0 ∷ []) [] [])
     ∷ (filled 4 2 4 (p 1 ∷ p 7 ∷ p 3 ∷ p 7 ∷ p 0 ∷ p 7 ∷ p 3 ∷ p 3 ∷ p 4 ∷ m 4 ∷ []) (p 0 ∷ p 3 ∷ p 3 ∷ m 2 ∷ m 8 ∷ p 0 ∷ m 3 ∷ m 3 ∷ p 2 ∷ p 7 ∷ p 4 ∷ p 0 ∷ m 3 ∷ p 6 ∷ p 8 ∷ m 4 ∷ p 0 ∷ p 3 ∷ m 6 ∷ m 7 ∷ []) (Open 4) (p 1 ∷ p 0 ∷ m 1 ∷ m 1 ∷ p 0 ∷ p 0 ∷ p 1 ∷ p 0 ∷ m 9 ∷ m 4 ∷ p 0 ∷ p 0 ∷ p 5 ∷ m 2 ∷ p 0 ∷ p 0 ∷ m 1 ∷ m 2 ∷ p 10 ∷ p 4 ∷ []) (0 ∷ 0 ∷ 1 ∷ 1 ∷ []) (p 1 ∷ p 7 ∷ p 3 ∷ p 7 ∷ p 0 ∷ p 0 ∷ p 46 ∷ p 18 ∷ p 45 ∷ p 4 ∷ p 0 ∷ p 2 ∷ p 1 ∷ p 2 ∷ p 0 ∷ p 0 ∷ p 5 ∷ p 2 ∷ p 5 ∷ p 0 ∷ []) (p 1 ∷ p 0 ∷ p 1 ∷ p 7 ∷ m 1 ∷ p 1 ∷ p 0 ∷ p 0 ∷ p 0 ∷ p 0 ∷ p 0 ∷ p 0 ∷ []) (p 0 ∷ p 0 ∷ p 19 ∷ m 53 ∷ m 28 ∷ p 0 ∷ p 0 ∷ m 19 ∷ p 53 ∷ p 27 ∷ p 0 ∷ p 0 ∷ m 1 ∷ p 2 ∷ p 2 ∷ p 0 ∷ p 0 ∷ p 31 ∷ m 62 ∷ m 31 ∷ []) (3 ∷ 3 ∷ 3 ∷ 3 ∷ []))
-    ∷ (refused 1 3 4 (m 1 ∷ p 1 ∷ p 1 ∷ p 4294967296 ∷ m 9999999999 ∷ m 1 ∷ []) (m 1 ∷ p 268435456 ∷ p 0 ∷ m 1 ∷ m 268435456 ∷ p 1 ∷ m 1 ∷ p 0 ∷ []) (BadEntry 0 2 2))
+    ∷ (refused 1 3 4 (m 1 ∷ p 1 ∷ p 1 ∷ p 4294967296 ∷ m 9999999999 ∷ m 1 ∷ []) (m 1 ∷ p 268435456 ∷ p 0 ∷ m 1 ∷ m 268435456 ∷ p 1 ∷ m 1 ∷ p 0 ∷ []) (BadEntry Equations 2 2))
     ∷ (refused 3 2 1 (p 3 ∷ m 1 ∷ p 2 ∷ p 2 ∷ p 0 ∷ p 268435455 ∷ p 134217727 ∷ p 0 ∷ []) (m 2 ∷ p 1 ∷ p 0 ∷ m 2 ∷ []) (TooLarge 1 0))
     ∷ (unmet 2 2 4 (p 4 ∷ p 3 ∷ p 1 ∷ m 4 ∷ p 5 ∷ m 1 ∷ []) (p 1 ∷ m 268435455 ∷ m 268435455 ∷ p 1 ∷ p 268435455 ∷ p 134217727 ∷ m 2 ∷ p 0 ∷ p 2 ∷ p 1 ∷ m 3 ∷ m 2 ∷ []) (EquationConflict 2 2) (p 9 ∷ p 1 ∷ p 32 ∷ []))
     ∷ (filled 1 1 2 (p 3 ∷ p 6 ∷ []) (m 2 ∷ p 4 ∷ p 1 ∷ p 6 ∷ []) (OneRowConflict 1 1) (p 1 ∷ m 2 ∷ []) (0 ∷ []) (p 1 ∷ p 2 ∷ []) (p 1 ∷ p 3 ∷ []) (p 0 ∷ p 8 ∷ p 0 ∷ p 4 ∷ []) (1 ∷ 1 ∷ []))
@@ -52,7 +53,7 @@ systems =
     ∷ (refused 2 2 1 (p 19683 ∷ p 39366 ∷ p 39366 ∷ p 156250 ∷ m 78125 ∷ m 78125 ∷ []) (m 4 ∷ m 11 ∷ p 46 ∷ []) (TooLarge 2 1))
     ∷ (unmet 3 2 2 (p 1 ∷ m 2 ∷ m 1 ∷ m 2 ∷ p 987 ∷ m 2 ∷ m 610 ∷ p 3 ∷ []) (m 3 ∷ p 3 ∷ m 2 ∷ p 2 ∷ m 3 ∷ p 0 ∷ p 2 ∷ p 1 ∷ []) (EquationConflict 2 1) (m 987 ∷ p 1 ∷ p 29 ∷ []))
     ∷ (filled 4 3 4 (m 2 ∷ p 3 ∷ p 6 ∷ m 3 ∷ m 6 ∷ p 2 ∷ p 4 ∷ m 5 ∷ m 6 ∷ m 4 ∷ m 1 ∷ m 4 ∷ p 0 ∷ p 0 ∷ m 1 ∷ []) (m 4 ∷ m 2 ∷ p 0 ∷ p 3 ∷ p 1 ∷ p 4 ∷ p 2 ∷ p 0 ∷ m 3 ∷ p 1 ∷ p 2 ∷ m 2 ∷ m 1 ∷ m 8 ∷ p 1 ∷ m 2 ∷ p 2 ∷ p 1 ∷ p 8 ∷ p 1 ∷ []) (TwoRowConflict 1 2 5) (m 21 ∷ p 1 ∷ p 3 ∷ m 204 ∷ m 153 ∷ p 5 ∷ p 1 ∷ p 0 ∷ p 51 ∷ p 38 ∷ m 8 ∷ p 0 ∷ p 1 ∷ m 78 ∷ m 58 ∷ p 3 ∷ p 0 ∷ p 0 ∷ p 31 ∷ p 22 ∷ []) (0 ∷ 0 ∷ 0 ∷ 1 ∷ []) (p 31 ∷ m 31 ∷ m 93 ∷ p 21 ∷ p 65 ∷ m 2 ∷ p 3 ∷ p 6 ∷ m 3 ∷ m 6 ∷ p 14 ∷ m 14 ∷ m 41 ∷ p 12 ∷ p 32 ∷ m 3 ∷ p 3 ∷ p 9 ∷ m 2 ∷ m 7 ∷ []) (m 13 ∷ p 3 ∷ p 1 ∷ p 1 ∷ p 1 ∷ p 0 ∷ p 0 ∷ p 1 ∷ m 6 ∷ p 1 ∷ p 0 ∷ p 1 ∷ p 0 ∷ p 0 ∷ p 0 ∷ p 0 ∷ []) (p 0 ∷ p 0 ∷ p 0 ∷ p 1 ∷ p 1 ∷ p 0 ∷ p 0 ∷ p 0 ∷ m 1 ∷ p 0 ∷ p 0 ∷ p 0 ∷ p 0 ∷ m 1 ∷ p 0 ∷ p 0 ∷ p 0 ∷ p 0 ∷ p 1 ∷ p 1 ∷ []) (7 ∷ 7 ∷ 7 ∷ 7 ∷ []))
-    ∷ (refused 3 2 1 (m 4 ∷ m 5 ∷ m 9 ∷ m 9 ∷ p 3 ∷ m 5 ∷ p 8 ∷ m 8 ∷ []) (m 2147483648 ∷ p 3 ∷ m 1 ∷ m 5 ∷ []) (BadEntry 1 1 1))
+    ∷ (refused 3 2 1 (m 4 ∷ m 5 ∷ m 9 ∷ m 9 ∷ p 3 ∷ m 5 ∷ p 8 ∷ m 8 ∷ []) (m 2147483648 ∷ p 3 ∷ m 1 ∷ m 5 ∷ []) (BadEntry Inequalities 1 1))
     ∷ (unmet 2 2 1 (m 4 ∷ p 0 ∷ m 3 ∷ p 0 ∷ m 268435455 ∷ p 268435455 ∷ []) (m 3 ∷ p 0 ∷ p 2 ∷ []) (EquationConflict 1 0) (p 1 ∷ p 0 ∷ p 4 ∷ []))
     ∷ (unmet 2 2 3 (p 5 ∷ m 2 ∷ p 5 ∷ p 2 ∷ p 1 ∷ p 0 ∷ []) (m 2 ∷ m 2 ∷ m 3 ∷ m 1 ∷ p 2 ∷ p 2 ∷ p 134217727 ∷ p 0 ∷ p 1 ∷ []) (EquationConflict 2 2) (m 4 ∷ p 1 ∷ p 9 ∷ []))
     ∷ (filled 2 1 5 (p 3 ∷ p 2 ∷ p 3 ∷ []) (p 0 ∷ m 4 ∷ p 0 ∷ m 5 ∷ m 3 ∷ p 3 ∷ m 5 ∷ p 2 ∷ p 5 ∷ m 3 ∷ p 1 ∷ p 2 ∷ m 5 ∷ p 3 ∷ m 1 ∷ []) (Open 2) (p 1 ∷ m 2 ∷ m 1 ∷ m 1 ∷ p 3 ∷ p 0 ∷ []) (0 ∷ 1 ∷ []) (p 3 ∷ p 2 ∷ p 3 ∷ p 1 ∷ p 1 ∷ p 1 ∷ []) (p 1 ∷ p 1 ∷ p 0 ∷ p 0 ∷ []) (p 0 ∷ m 12 ∷ p 0 ∷ p 0 ∷ p 1 ∷ p 8 ∷ p 0 ∷ p 1 ∷ p 1 ∷ p 0 ∷ p 1 ∷ p 1 ∷ p 0 ∷ p 1 ∷ p 1 ∷ []) (1 ∷ 1 ∷ 1 ∷ 1 ∷ 1 ∷ []))

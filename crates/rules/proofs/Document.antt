@@ -2,6 +2,7 @@
 -- the answer is given, in the order substitution, marks, way back, reasons, tightened, used.
 use mathlib.Core.Path.{◌≡◌, refl}
 use mathlib.Core.List.{List, [], ◌∷◌, map}
+use Rattle.rules.specs.declared.Table.TheVariants.{Equations}
 use Rattle.rules.specs.declared.Refusal.TheVariants.{BadEntry, TooLarge, LargeSum}
 use Rattle.rules.specs.declared.Outcome.TheVariants.{Open, EquationConflict, TwoRowConflict}
 use Rattle.rules.proofs.Case.{Case, p, m, answered, filled, unmet, refused}
@@ -69,7 +70,7 @@ P11 = filled 1 1 0 (p 268435455 ∷ p 0 ∷ []) [] (Open 1)
     [] []
 
 abbrev pub P11' : Case
-P11' = refused 1 1 0 (p 268435456 ∷ p 0 ∷ []) [] (BadEntry 0 1 1)
+P11' = refused 1 1 0 (p 268435456 ∷ p 0 ∷ []) [] (BadEntry Equations 1 1)
 
 -- P12 tightening 5y-3 gives y+0; -5y+2 gives -y+1; 2y-4 stays.
 abbrev pub P12 : Case

@@ -3,4 +3,6 @@ pub mod Elimination
 pub mod Inequalities
 pub mod Outcomes
 pub mod Checker
+pub mod Reading
 pub mod Numbers
+pub mod Lent

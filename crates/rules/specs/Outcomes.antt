@@ -7,6 +7,8 @@ use Rattle.std.proofs.Math.ListN.{replicate}
 use Rattle.std.proofs.Math.IntN.{pos}
 use Rattle.rows.specs.Row.{zeros, all_within, bounded, first_beyond}
 use Rattle.rows.specs.Table.{rows_of, flat}
+use Rattle.rules.specs.declared.Table.{Table}
+use Rattle.rules.specs.declared.Table.TheVariants.{Equations, Inequalities}
 use Rattle.rules.specs.declared.Refusal.{Refusal}
 use Rattle.rules.specs.declared.Refusal.TheVariants.{OutOfRange, WrongLength, BadEntry, TooLarge, LargeSum}
 use Rattle.rules.specs.declared.Outcome.{Outcome}
@@ -16,7 +18,7 @@ use Rattle.rules.specs.Inequalities.{sums, used_by, tightened_row, first_row, al
 
 -- ---- refusal 3: the first entry beyond the limit of a table with rows of this width
 
-unfoldable pub bad_entry : ℕ → ℕ → List ℤ → Refusal
+unfoldable pub bad_entry : ℕ → Table → List ℤ → Refusal
 unfolding first_beyond
 bad_entry width table numbers = let i = first_beyond numbers in BadEntry table (suc (i / width)) (suc (i % width))
 
@@ -126,9 +128,9 @@ module _ (n m k : ℕ) where
       elim (all_within equations) [
         | true ↦ elim (all_within inequalities) [
           | true ↦ after_run (rows_of (suc n) k inequalities) (elimination n m (rows_of (suc n) m equations))
-          | false ↦ record { outcome = Refused (bad_entry (suc n) 1 inequalities); results = blank }
+          | false ↦ record { outcome = Refused (bad_entry (suc n) Inequalities inequalities); results = blank }
         ]
-        | false ↦ record { outcome = Refused (bad_entry (suc n) 0 equations); results = blank }
+        | false ↦ record { outcome = Refused (bad_entry (suc n) Equations equations); results = blank }
       ]
 
   -- what a call answers, and the result tables after it, `given` being those before it

@@ -1,6 +1,14 @@
 // The answers of document 01 (docs/RULES.md), "Outcomes": each kind with its own data. Rows and columns count from 1.
 #![tactic(auto)]
 
+// The table of a bad entry.
+#[derive(Clone, Copy)]
+pub enum Table {
+    Equations,
+    Inequalities,
+    Multipliers,
+}
+
 #[derive(Clone, Copy)]
 pub enum Refusal {
     // 1: n, m or k out of range
@@ -9,7 +17,7 @@ pub enum Refusal {
     WrongLength,
     // 3: the first bad entry, of table 0 (equations), 1 (inequalities) or 2 (multipliers)
     BadEntry {
-        table: usize,
+        table: Table,
         row: usize,
         column: usize,
     },
@@ -39,17 +47,26 @@ pub enum Outcome {
     Refused(Refusal),
 }
 
-// The answer of the multiplier checker.
+// What the reader finds in a text: the numbers of variables, equations and inequalities.
 #[derive(Clone, Copy)]
-pub enum Verdict {
-    Yes,
-    No,
-    NotChecked(Refusal),
+pub struct System {
+    pub n: usize,
+    pub m: usize,
+    pub k: usize,
 }
 
-// What the reader answers.
-#[derive(Clone, Copy)]
-pub enum Reading {
-    System { n: usize, m: usize, k: usize },
-    Unread(Refusal),
+// The four result tables that show the state of a run, as the caller lends them.
+#[derive(Drop)]
+pub struct StateTables<'a> {
+    pub substitution: &'a mut [i64],
+    pub marks: &'a mut [u8],
+    pub way_back: &'a mut [i64],
+    pub reasons: &'a mut [i64],
+}
+
+// The result tables of the inequalities: a tightened row for each, and the set of the equations that it used.
+#[derive(Drop)]
+pub struct RowTables<'a> {
+    pub tightened: &'a mut [i64],
+    pub used: &'a mut [u64],
 }

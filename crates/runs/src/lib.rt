@@ -1,69 +1,51 @@
 // The run over the equations and then the work on the inequalities, where the checks of the input let them.
 #![tactic(auto)]
 
-ghost use Rattle.std.specs.Prelude.{◌≡◌, true, suc, ◌≤◌, ◌*◌, length};
+ghost use Rattle.std.specs.Prelude.{◌≡◌, true, suc, ◌≤◌, ◌*◌, pos, length, replicate};
 ghost use Rattle.rows.specs.Row.{all_within};
 ghost use Rattle.rows.specs.Table.{rows_of};
 ghost use Rattle.rules.specs.Elimination.{elimination as elimination_of};
+ghost use Rattle.rules.specs.Lent.{SameTables, SameLengths, SameRows, CallLengths};
 ghost use Rattle.rules.specs.Outcomes.{after_run};
-ghost use Rattle.outcomes.specs.Answered.{answer};
+ghost use Rattle.outcomes.specs.Answered.{answer_in};
 
 use all_rows::Ran;
-use rules::{Outcome, Refusal};
+use rules::{Outcome, Refusal, RowTables, StateTables, System};
+
+// The tables of the inequalities full of zeros, where none is worked.
+fn clear_rows(rows: &mut RowTables)
+    ensures same { SameRows rows.old rows.new }
+    ensures zeros { (rows.new.tightened.now ≡ replicate (length rows.old.tightened.now) (pos 0)) × (rows.new.used.now ≡ replicate (length rows.old.used.now) 0) }
+{
+    rows.tightened.fill(0);
+    rows.used.fill(0);
+}
 
 // The run and the inequalities, on tables of the right lengths with all entries within the limit.
 pub fn solve_good(
-    n: usize,
-    m: usize,
-    k: usize,
+    system: System,
     equations: &[i64],
     inequalities: &[i64],
-    substitution: &mut [i64],
-    marks: &mut [u8],
-    back: &mut [i64],
-    reasons: &mut [i64],
+    state: &mut StateTables,
     conflict: &mut [i64],
-    tightened: &mut [i64],
-    used: &mut [u64],
+    rows: &mut RowTables,
 ) -> Outcome
-    requires le_n { (1 ≤ n) × (n ≤ 32) × (m ≤ 32) × (k ≤ 64) × (length equations.now ≡ m * suc n) }
-    requires inequalities_len { (length inequalities.now ≡ k * suc n) × (length substitution.old ≡ n * suc n) × (length marks.old ≡ n) × (length back.old ≡ n * suc n) × (length reasons.old ≡ n * suc m) }
-    requires conflict_len { (length conflict.old ≡ suc m) × (length tightened.old ≡ k * suc n) × (length used.old ≡ k) × (all_within equations.now ≡ true) × (all_within inequalities.now ≡ true) }
-    ensures { answer result substitution.new marks.new back.new reasons.new conflict.new tightened.new used.new ≡ after_run n m k (rows_of (suc n) k inequalities.now) (elimination_of n m (rows_of (suc n) m equations.now)) }
+    requires size { (1 ≤ system.n) × (system.n ≤ 32) × (system.m ≤ 32) × (system.k ≤ 64) }
+    requires lengths { CallLengths system equations.now inequalities.now state.old conflict.old rows.old }
+    requires within { (all_within equations.now ≡ true) × (all_within inequalities.now ≡ true) }
+    ensures same { SameTables state.old state.new × SameLengths state.old state.new × SameRows rows.old rows.new }
+    ensures answer { answer_in result state.new conflict.new rows.new ≡ after_run system.n system.m system.k (rows_of (suc system.n) system.k inequalities.now) (elimination_of system.n system.m (rows_of (suc system.n) system.m equations.now)) }
 {
-    let ran = elimination::eliminate(
-        equations,
-        substitution,
-        marks,
-        back,
-        reasons,
-        conflict,
-        n,
-        m,
-    );
-    match ran {
-        Ran::Finished(steps) => outcomes::with_inequalities(
-            n,
-            m,
-            k,
-            steps,
-            inequalities,
-            substitution,
-            marks,
-            back,
-            reasons,
-            conflict,
-            tightened,
-            used,
-        ),
+    match elimination::eliminate(equations, state, conflict, system.n, system.m) {
+        Ran::Finished(steps) => {
+            outcomes::with_inequalities(system, steps, inequalities, state, conflict, rows)
+        }
         Ran::Conflict { row, steps } => {
-            copying::fill(tightened, 0);
-            copying::fill_sets(used, 0);
+            clear_rows(rows);
             Outcome::EquationConflict { row, steps }
         }
         Ran::Grown { row, steps } => {
-            copying::fill(tightened, 0);
-            copying::fill_sets(used, 0);
+            clear_rows(rows);
             Outcome::Refused(Refusal::TooLarge { row, steps })
         }
     }

@@ -5,8 +5,8 @@ use mathlib.Core.List.{List}
 use Prim.Native.Nat.{ℕ}
 use lib.IntN.{ℤ}
 use Rattle.rules.specs.declared.Outcome.{Outcome}
-use Rattle.rules.specs.declared.Verdict.{Verdict}
-use Rattle.rules.specs.declared.Reading.{Reading}
+use Rattle.std.specs.Prelude.{Bool, Result}
+use Rattle.rules.specs.declared.Refusal.{Refusal}
 use Rattle.rules.specs.Outcomes.{Results, Answer, solve}
 use Rattle.rules.specs.Checker.{check}
 use Rattle.solver.specs.Answered.{answer}
@@ -14,6 +14,7 @@ use Rattle.matrix.specs.Poured.{Page, page, written}
 use Rattle.matrix.specs.Reader.{Read, reply, read}
 use Rattle.matrix.specs.Program.{program}
 use Rattle.exports.specs.Numbered.{Returned, returned, solved, checked, read_into}
+use Rattle.rules.specs.declared.System.{System}
 
 -- what two equal records hold
 abbrev shown : {A B : Type 0} (field : A → B) {first second value : A} → first ≡ value → second ≡ value → field first ≡ field second
@@ -28,11 +29,11 @@ pub one-solve : (n m k : ℕ) (equations inequalities : List ℤ) (given : Resul
 one-solve n m k equations inequalities given r r' t t' p q = (shown (λ (a : Answer). a.outcome) p q, shown (λ (a : Answer). a.results) p q)
 
 -- ---- checker::check
-pub one-check : (n m : ℕ) (equations table : List ℤ) (r r' : Verdict) → r ≡ check n m equations table → r' ≡ check n m equations table → r ≡ r'
+pub one-check : (n m : ℕ) (equations table : List ℤ) (r r' : Result Bool Refusal) → r ≡ check n m equations table → r' ≡ check n m equations table → r ≡ r'
 one-check n m equations table r r' p q = p ∙ sym q
 
 -- ---- reader::read: what was read and the two row tables
-pub one-read : (text : List ℕ) (equations inequalities : List ℤ) (r r' : Reading) (e e' i i' : List ℤ)
+pub one-read : (text : List ℕ) (equations inequalities : List ℤ) (r r' : Result System Refusal) (e e' i i' : List ℤ)
     → reply r e i ≡ read text equations inequalities → reply r' e' i' ≡ read text equations inequalities → (r ≡ r') × (e ≡ e') × (i ≡ i')
 one-read text equations inequalities r r' e e' i i' p q = (
   shown (λ (a : Read). a.reading) p q,

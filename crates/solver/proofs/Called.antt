@@ -15,8 +15,12 @@ use Rattle.rules.specs.declared.Refusal.TheVariants.{OutOfRange, WrongLength}
 use Rattle.rules.specs.declared.Outcome.TheVariants.{Refused}
 use Rattle.rules.specs.Elimination.{elimination}
 use Rattle.rules.specs.Outcomes.{Results, Answer, bad_entry, blank, in_range, right_lengths, after_run, from_entries, solve}
-use Rattle.limits.specs.declared.Entries.{Entries}
-use Rattle.limits.specs.declared.Entries.TheVariants.{Good, Bad}
+use Rattle.std.specs.Prelude.{Result, Ok, Err, length}
+use Rattle.rules.specs.declared.Table.TheVariants.{Equations, Inequalities}
+use Rattle.rules.specs.declared.System.{System}
+use Rattle.rules.specs.declared.StateTables.{StateTables}
+use Rattle.rules.specs.declared.RowTables.{RowTables}
+use Rattle.rules.specs.Lent.{CallLengths}
 use Rattle.limits.specs.Checked.{lengths_right, entries_checked}
 
 -- ---- what the checks tell: n, m and k are in range
@@ -32,58 +36,46 @@ in-range n m k e =
     )
 
 -- the nine tables have their lengths
-pub record Long (n m k equations inequalities substitution marks way_back reasons conflict tightened used : ℕ) : Type 0 where
-  pub equations_long : equations ≡ m * suc n
-  pub inequalities_long : inequalities ≡ k * suc n
-  pub substitution_long : substitution ≡ n * suc n
-  pub marks_long : marks ≡ n
-  pub way_back_long : way_back ≡ n * suc n
-  pub reasons_long : reasons ≡ n * suc m
-  pub conflict_long : conflict ≡ suc m
-  pub tightened_long : tightened ≡ k * suc n
-  pub used_long : used ≡ k
-
 both : (a b : ℕ) (more : Bool) → eqb a b && more ≡ true → (a ≡ b) × (more ≡ true)
 both a b more e = (eqb-true a b (and_left (eqb a b) more e), and_right (eqb a b) more e)
 
-pub all-long : {n m k equations inequalities substitution marks way_back reasons conflict tightened used : ℕ}
-    → lengths_right n m k equations inequalities substitution marks way_back reasons conflict tightened used ≡ true
-    → Long n m k equations inequalities substitution marks way_back reasons conflict tightened used
-all-long {n} {m} {k} {equations} {inequalities} {substitution} {marks} {way_back} {reasons} {conflict} {tightened} {used} h₀ =
-    let (e, h₁) = both equations (m * suc n) _ h₀ in
-    let (i, h₂) = both inequalities (k * suc n) _ h₁ in
-    let (s, h₃) = both substitution (n * suc n) _ h₂ in
-    let (q, h₄) = both marks n _ h₃ in
-    let (w, h₅) = both way_back (n * suc n) _ h₄ in
-    let (r, h₆) = both reasons (n * suc m) _ h₅ in
-    let (c, h₇) = both conflict (suc m) _ h₆ in
-    let (t, h₈) = both tightened (k * suc n) _ h₇ in
+pub all-long : (system : System) (equations inequalities : List ℤ) (state : StateTables) (conflict : List ℤ) (rows : RowTables)
+    → lengths_right system.n system.m system.k equations inequalities state conflict rows ≡ true
+    → CallLengths system equations inequalities state conflict rows
+all-long system equations inequalities state conflict rows h₀ =
+    let n = system.n in
+    let m = system.m in
+    let k = system.k in
+    let (e, h₁) = both (length equations) (m * suc n) _ h₀ in
+    let (i, h₂) = both (length inequalities) (k * suc n) _ h₁ in
+    let (s, h₃) = both (length state.substitution.now) (n * suc n) _ h₂ in
+    let (q, h₄) = both (length state.marks.now) n _ h₃ in
+    let (w, h₅) = both (length state.way_back.now) (n * suc n) _ h₄ in
+    let (r, h₆) = both (length state.reasons.now) (n * suc m) _ h₅ in
+    let (c, h₇) = both (length conflict) (suc m) _ h₆ in
+    let (t, h₈) = both (length rows.tightened.now) (k * suc n) _ h₇ in
     record {
       equations_long = e;
       inequalities_long = i;
-      substitution_long = s;
-      marks_long = q;
-      way_back_long = w;
-      reasons_long = r;
+      state_long = record { substitution = s; marks = q; way_back = w; reasons = r };
       conflict_long = c;
-      tightened_long = t;
-      used_long = eqb-true used k h₈;
+      rows_long = record { tightened = t; used = eqb-true (length rows.used.now) k h₈ };
     }
 
 -- ---- the entries of both tables
 module _ (n : ℕ) (equations inequalities : List ℤ) where
-  checked : Bool → Bool → Entries
+  checked : Bool → Bool → Result (Unit {0}) Refusal
   checked first second =
       elim first [
-        | true ↦ elim second [ true ↦ Good | false ↦ Bad (bad_entry (suc n) 1 inequalities) ]
-        | false ↦ Bad (bad_entry (suc n) 0 equations)
+        | true ↦ elim second [ true ↦ Ok tt | false ↦ Err (bad_entry (suc n) Inequalities inequalities) ]
+        | false ↦ Err (bad_entry (suc n) Equations equations)
       ]
 
-  pub entries-good : Good ≡ entries_checked n equations inequalities → (all_within equations ≡ true) × (all_within inequalities ≡ true)
+  pub entries-good : ◌≡◌ {A = Result (Unit {0}) Refusal} (Ok tt) (entries_checked n equations inequalities) → (all_within equations ≡ true) × (all_within inequalities ≡ true)
   unfolding checked
   entries-good = go (all_within equations) (all_within inequalities)
     where
-      go : (first second : Bool) → Good ≡ checked first second → (first ≡ true) × (second ≡ true)
+      go : (first second : Bool) → Ok tt ≡ checked first second → (first ≡ true) × (second ≡ true)
       go true true h = (refl, refl)
       go true false h = let z : ◌≡◌ {A = ℕ} 0 1 = cc in absurd (omega arith)
       go false second h = let z : ◌≡◌ {A = ℕ} 0 1 = cc in absurd (omega arith)
@@ -95,9 +87,9 @@ module _ (n m k : ℕ) (equations inequalities : List ℤ) where
       elim first [
         | true ↦ elim second [
           | true ↦ after_run n m k (rows_of (suc n) k inequalities) (elimination n m (rows_of (suc n) m equations))
-          | false ↦ record { outcome = Refused (bad_entry (suc n) 1 inequalities); results = blank n m k }
+          | false ↦ record { outcome = Refused (bad_entry (suc n) Inequalities inequalities); results = blank n m k }
         ]
-        | false ↦ record { outcome = Refused (bad_entry (suc n) 0 equations); results = blank n m k }
+        | false ↦ record { outcome = Refused (bad_entry (suc n) Equations equations); results = blank n m k }
       ]
 
   pub all-good : (all_within equations ≡ true) × (all_within inequalities ≡ true)
@@ -105,15 +97,15 @@ module _ (n m k : ℕ) (equations inequalities : List ℤ) where
   unfolding from_entries entered
   all-good h = λ i. entered (h.0 i) (h.1 i)
 
-  pub entries-bad : (refusal : Refusal) → Bad refusal ≡ entries_checked n equations inequalities
+  pub entries-bad : (refusal : Refusal) → Err refusal ≡ entries_checked n equations inequalities
       → from_entries n m k equations inequalities ≡ record { outcome = Refused refusal; results = blank n m k }
   unfolding from_entries entered checked
   entries-bad refusal = go (all_within equations) (all_within inequalities)
     where
-      go : (first second : Bool) → Bad refusal ≡ checked n equations inequalities first second → entered first second ≡ record { outcome = Refused refusal; results = blank n m k }
+      go : (first second : Bool) → Err refusal ≡ checked n equations inequalities first second → entered first second ≡ record { outcome = Refused refusal; results = blank n m k }
       go true true h = let z : ◌≡◌ {A = ℕ} 0 1 = cc in absurd (omega arith)
-      go true false h = let e : bad_entry (suc n) 1 inequalities ≡ refusal = cc in ap (λ (r : Refusal). record { outcome = Refused r; results = blank n m k }) e
-      go false second h = let e : bad_entry (suc n) 0 equations ≡ refusal = cc in ap (λ (r : Refusal). record { outcome = Refused r; results = blank n m k }) e
+      go true false h = let e : bad_entry (suc n) Inequalities inequalities ≡ refusal = cc in ap (λ (r : Refusal). record { outcome = Refused r; results = blank n m k }) e
+      go false second h = let e : bad_entry (suc n) Equations equations ≡ refusal = cc in ap (λ (r : Refusal). record { outcome = Refused r; results = blank n m k }) e
 
 -- ---- what the call answers
 module _ (n m k : ℕ) (equations inequalities : List ℤ) (given : Results) where

@@ -11,10 +11,12 @@ use lib.IntN.{ℤ, nat_abs}
 use Rattle.whole.specs.Limit.{W}
 use Rattle.rows.specs.Row.{gcd_of, smallest, all_within}
 use Rattle.rows.proofs.Bounded.{bounded_at, bounded-take}
+use Rattle.rules.specs.declared.StateTables.{StateTables}
 use Rattle.rules.specs.Elimination.{State, Carried, step_of, stepping, Worked, large}
 use Rattle.rules.proofs.RowInHand.{column-below}
+use Rattle.steps.specs.declared.WorkTables.{WorkTables}
 use Rattle.steps.specs.Shown.{later_of}
-use Rattle.stepping.specs.Worked.{state_of, in_hand, Working3, Results4}
+use Rattle.stepping.specs.Worked.{state_of, in_hand, Working3, Results4, hand_now, later_now, state_now}
 use Rattle.stepping.proofs.Made.{Steps}
 use Rattle.stepping.proofs.Shuts.{ahead, goes_on}
 
@@ -23,17 +25,6 @@ abbrev pub comes_to : ℕ → ℕ → ℕ → ℕ → List ℤ → List ℤ → 
 comes_to n m left count rows multipliers divisors substitution marks back reasons =
     stepping all_within n left (in_hand n m rows multipliers divisors) (later_of n m rows multipliers divisors) (state_of n m substitution marks back reasons count)
 
--- the tables are as long as those at entry
-pub record Long (rows₀ multipliers₀ : List ℤ) (divisors₀ : List ℕ) (substitution₀ : List ℤ) (marks₀ : List ℕ) (back₀ reasons₀ : List ℤ)
-    (rows multipliers : List ℤ) (divisors : List ℕ) (substitution : List ℤ) (marks : List ℕ) (back reasons : List ℤ) : Type 0 where
-  pub rows_kept : length rows ≡ length rows₀
-  pub multipliers_kept : length multipliers ≡ length multipliers₀
-  pub divisors_kept : length divisors ≡ length divisors₀
-  pub substitution_kept : length substitution ≡ length substitution₀
-  pub marks_kept : length marks ≡ length marks₀
-  pub back_kept : length back ≡ length back₀
-  pub reasons_kept : length reasons ≡ length reasons₀
-
 pub record Going (goal : Worked) (n m bound : ℕ) (rows multipliers : List ℤ) (divisors : List ℕ) (substitution : List ℤ) (marks : List ℕ) (back reasons : List ℤ) (left count : ℕ) : Type 0 where
   pub working : Working3 n m rows multipliers divisors
   pub results : Results4 n m substitution marks back reasons
@@ -41,6 +32,14 @@ pub record Going (goal : Worked) (n m bound : ℕ) (rows multipliers : List ℤ)
   pub alive : 0 < gcd_of (take n rows)
   pub budget : count + left ≡ bound
   pub same : comes_to n m left count rows multipliers divisors substitution marks back reasons ≡ goal
+
+-- the same of the tables as the caller lends them
+abbrev pub comes_to_now : ℕ → ℕ → ℕ → ℕ → WorkTables → StateTables → Worked
+comes_to_now n m left count work state = stepping all_within n left (hand_now n m work) (later_now n m work) (state_now n m state count)
+
+abbrev pub GoingNow : Worked → ℕ → ℕ → ℕ → WorkTables → StateTables → ℕ → ℕ → Type 0
+GoingNow goal n m bound work state left count =
+    Going goal n m bound work.rows.now work.multipliers.now work.divisors.now state.substitution.now state.marks.now state.way_back.now state.reasons.now left count
 
 -- with no step left, the row is too large
 none_left : (n left : ℕ) (e : Carried) (later : List Carried) (s : State) → left ≤ 0 → large s.steps ≡ stepping all_within n left e later s

@@ -2,7 +2,9 @@
 use Rattle.std.specs.Prelude.{List, ℕ, suc, ◌≤◌, ◌*◌, ◌≡◌, true, length, get_or, take, ℤ, nat_abs}
 use Rattle.rows.specs.Row.{at, smallest, all_within}
 use Rattle.rows.specs.Table.{rows_of}
+use Rattle.rules.specs.declared.StateTables.{StateTables}
 use Rattle.rules.specs.Elimination.{Carried, State, Worked, passed, unmet, large, step_bound, stepping}
+use Rattle.steps.specs.declared.WorkTables.{WorkTables}
 use Rattle.steps.specs.Shown.{carry, later_of, Divisors}
 use Rattle.stepping.specs.declared.Working.{Working}
 use Rattle.stepping.specs.declared.Working.TheVariants.{Passed, Unmet, Large}
@@ -52,3 +54,23 @@ pub record Results4 (n m : ℕ) (substitution : List ℤ) (marks : List ℕ) (wa
   pub reasons_long : length reasons ≡ n * suc m
   pub substitution_within : all_within substitution ≡ true
   pub way_back_within : all_within way_back ≡ true
+
+-- ---- the same of the tables as the caller lends them, by what they hold
+abbrev pub WorkReady : ℕ → ℕ → WorkTables → Type 0
+WorkReady n m work = Working3 n m work.rows.now work.multipliers.now work.divisors.now
+
+abbrev pub StateReady : ℕ → ℕ → StateTables → Type 0
+StateReady n m state = Results4 n m state.substitution.now state.marks.now state.way_back.now state.reasons.now
+
+abbrev pub hand_now : ℕ → ℕ → WorkTables → Carried
+hand_now n m work = in_hand n m work.rows.now work.multipliers.now work.divisors.now
+
+abbrev pub later_now : ℕ → ℕ → WorkTables → List Carried
+later_now n m work = later_of n m work.rows.now work.multipliers.now work.divisors.now
+
+abbrev pub state_now : ℕ → ℕ → StateTables → ℕ → State
+state_now n m state steps = state_of n m state.substitution.now state.marks.now state.way_back.now state.reasons.now steps
+
+abbrev pub answer_now : Working → ℕ → ℕ → WorkTables → StateTables → Worked
+answer_now answer n m work state =
+    work_shown answer n m work.rows.now work.multipliers.now work.divisors.now state.substitution.now state.marks.now state.way_back.now state.reasons.now

@@ -5,14 +5,18 @@ ghost use Rattle.std.specs.Prelude.{◌≡◌, ◌≤◌, ◌<◌, nat_abs, leng
 ghost use Rattle.whole.specs.Limit.{W};
 ghost use Rattle.rows.specs.Row.{gcd_of};
 ghost use Rattle.rules.specs.Elimination.{step_bound};
-ghost use Rattle.stepping.specs.Worked.{state_of, in_hand, steps_from, work_shown, Working3, Results4};
-ghost use Rattle.steps.specs.Shown.{later_of};
+ghost use Rattle.rules.specs.Lent.{SameTables, SameLengths};
+ghost use Rattle.stepping.specs.Worked.{steps_from, WorkReady, StateReady, hand_now, later_now, state_now, answer_now};
+ghost use Rattle.steps.specs.Shown.{SameWork};
+
+use rules::StateTables;
+use steps::WorkTables;
 
 // The answer of the work on a row: passed, with the steps so far; a conflict with its D; a listed number too large.
 #[derive(Clone, Copy)]
 pub enum Working {
     Passed(usize),
-    Unmet(u64, usize),
+    Unmet { d: u64, steps: usize },
     Large(usize),
 }
 
@@ -27,38 +31,36 @@ fn most_steps(least: i64) -> usize
 
 // (c) and (d), again and again.
 pub fn stepping(
-    rows: &mut [i64],
-    multipliers: &mut [i64],
-    divisors: &mut [u64],
-    substitution: &mut [i64],
-    marks: &mut [u8],
-    back: &mut [i64],
-    reasons: &mut [i64],
+    work: &mut WorkTables,
+    state: &mut StateTables,
     n: usize,
     m: usize,
     before: usize,
 ) -> Working
-    requires working3 { Working3 n m rows.old multipliers.old divisors.old × Results4 n m substitution.old marks.old back.old reasons.old }
-    requires in_bounds { (1 ≤ length divisors.old) × (0 < gcd_of (take n rows.old)) × (before ≤ 1000000) }
-    ensures { work_shown result n m rows.new multipliers.new divisors.new substitution.new marks.new back.new reasons.new ≡ steps_from n (in_hand n m rows.old multipliers.old divisors.old) (later_of n m rows.old multipliers.old divisors.old) (state_of n m substitution.old marks.old back.old reasons.old before) }
+    requires ready { WorkReady n m work.old × StateReady n m state.old }
+    requires in_bounds { (1 ≤ length work.old.divisors.now) × (0 < gcd_of (take n work.old.rows.now)) × (before ≤ 1000000) }
+    ensures made { answer_now result n m work.new state.new ≡ steps_from n (hand_now n m work.old) (later_now n m work.old) (state_now n m state.old before) }
+    ensures same { SameWork work.old work.new × SameTables state.old state.new × SameLengths state.old state.new }
 {
+    let rows = &mut *work.rows;
     let mut k = coefficients::smallest(&rows[..n]);
-    let mut left = most_steps(rows[k]);
+    let mut lead = rows[k];
     let mut count = before;
-    while 0 < left {
-        let lead = rows[k];
-        if !turning::turn(rows, substitution, back, divisors.len(), n, k) {
+    for _ in 0..most_steps(lead) {
+        let height = work.divisors.len();
+        if !turning::turn(work.rows, height, state, n, k) {
             return Working::Large(count);
         }
         if whole::magnitude(lead) == 1 {
-            if closing::close(rows, multipliers, divisors, marks, reasons, n, m, k, lead) {
+            if closing::close(work, state, n, m, k, lead) {
                 return Working::Passed(count + 1);
             }
             return Working::Large(count);
         }
+        let rows = &mut *work.rows;
         k = coefficients::smallest(&rows[..n]);
+        lead = rows[k];
         count += 1;
-        left -= 1;
     }
     Working::Large(count)
 }

@@ -1,10 +1,6 @@
--- What is common to the steps on tables: an attempt that is refused or not, and a list whose first part was lent and came back.
+-- What is common to the steps on tables: an attempt that is refused or not.
 use mathlib.Core.Path.{◌≡◌, refl}
 use mathlib.Core.Bool.{Bool, true, false}
-use mathlib.Core.List.{List, ◌++◌}
-use Prim.Native.Nat.{ℕ, ◌≤◌}
-use native.Mathlib.Omega.{arith}
-use lib.ListN.{length, drop, length-append, length-drop}
 use Rattle.steps.specs.Shown.{tried}
 
 module _ {A : Type 0} where
@@ -27,7 +23,3 @@ module _ {A : Type 0} where
   tried-made true true x y f e = cc
   tried-made true false x y f e = cc
   tried-made false c x y f e = cc
-
-  -- the list is as long as it was
-  pub lent_length : (w : ℕ) (part l : List A) → length part ≡ w → w ≤ length l → length (part ++ drop w l) ≡ length l
-  lent_length w part l e h = simp (length-append, length-drop) (omega arith)

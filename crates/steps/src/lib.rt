@@ -7,11 +7,12 @@ ghost use Rattle.rows.specs.Row.{divided, all_within};
 ghost use Rattle.rules.specs.Elimination.{shared, reduced, listed_a, corrected, listed_d};
 ghost use Rattle.steps.specs.Shown.{tried, carry, kept_row, Divisor};
 
-// The divisor of a row, or that a listed number is beyond the limit.
-#[derive(Clone, Copy)]
-pub enum Kept {
-    Fits(u64),
-    Beyond,
+// The working tables of a run from the row in hand on: the rows, their multipliers and their divisors.
+#[derive(Drop)]
+pub struct WorkTables<'a> {
+    pub rows: &'a mut [i64],
+    pub multipliers: &'a mut [i64],
+    pub divisors: &'a mut [u64],
 }
 
 // Multipliers and divisor brought to lowest terms together; the new divisor.
@@ -30,20 +31,21 @@ fn lowest_terms(multipliers: &mut [i64], d: u64) -> u64
     whole::over(d, g)
 }
 
-// (a) where g is 2 or more: the row divided by g, its gcd; the divisor multiplied by g; lowest terms.
-pub fn reduce(row: &mut [i64], multipliers: &mut [i64], d: u64, g: u64) -> Kept
+// (a) where g is 2 or more: the row divided by g, its gcd; the divisor multiplied by g; lowest terms. The new divisor, or none where a listed
+// number is beyond the limit.
+pub fn reduce(row: &mut [i64], multipliers: &mut [i64], d: u64, g: u64) -> Option<u64>
     requires { (all_within row.old ≡ true) × (all_within multipliers.old ≡ true) × Divisor d × (2 ≤ g) × (g ≤ W) }
     ensures { kept_row result row.new multipliers.new ≡ tried (all_within (listed_a g (carry row.old multipliers.old d))) (reduced g (carry row.old multipliers.old d)) }
 {
     let product = d * g;
     if 268435455 < product {
-        return Kept::Beyond;
+        return None;
     }
     rows::divide(row, whole::signed(g));
-    Kept::Fits(lowest_terms(multipliers, product))
+    Some(lowest_terms(multipliers, product))
 }
 
-// (d) for one later row with divisor h: the coefficient at k is lost.
+// (d) for one later row with divisor h: the coefficient at k is lost. The answer is as of (a).
 pub fn correct(
     row: &mut [i64],
     multipliers: &mut [i64],
@@ -51,28 +53,25 @@ pub fn correct(
     k: usize,
     d: u64,
     reason: &[i64],
-) -> Kept
+) -> Option<u64>
     requires k_in_bounds { (k < length row.old) × (length reason.now ≡ length multipliers.old) × Divisor h × Divisor d }
     requires row_value { (all_within row.old ≡ true) × (all_within multipliers.old ≡ true) × (all_within reason.now ≡ true) }
     ensures { kept_row result row.new multipliers.new ≡ tried (all_within (listed_d k d reason.now (carry row.old multipliers.old h))) (corrected k d reason.now (carry row.old multipliers.old h)) }
 {
     let b = row[k];
     if b == 0 {
-        return Kept::Fits(h);
+        return Some(h);
     }
     let e = whole::gcd(h, d);
     let share = whole::over(d, e);
     let f = multiples::product(b, whole::signed(whole::over(h, e)));
     let product = h * share;
-    if 268435455 < product {
-        return Kept::Beyond;
-    }
-    if !whole::within(f) {
-        return Kept::Beyond;
+    if 268435455 < product || !whole::within(f) {
+        return None;
     }
     row[k] = 0;
     if !multiples::blend(multipliers, whole::signed(share), reason, f) {
-        return Kept::Beyond;
+        return None;
     }
-    Kept::Fits(lowest_terms(multipliers, product))
+    Some(lowest_terms(multipliers, product))
 }

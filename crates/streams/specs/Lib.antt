@@ -1,2 +1,2 @@
--- What an answer of a reader means.
-pub mod Moves
+-- What was read of a text.
+pub mod Read

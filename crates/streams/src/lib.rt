@@ -2,91 +2,56 @@
 // closed descriptor.
 #![tactic(auto)]
 
-ghost use Rattle.std.specs.Prelude.{◌≡◌, length};
-ghost use Rattle.streams.specs.Moves.{meant, Fits, Inside};
+ghost use Rattle.std.specs.Prelude.{◌≡◌, length, IfOk};
+ghost use Rattle.streams.specs.Read.{meant, Holds};
 
 use std::io;
 use std::io::Read;
 
-// What one call moved.
-#[derive(Clone, Copy)]
-pub enum Move {
-    Bytes(usize),
-    End,
-    Failed,
-}
-
-// A text of so many bytes, or one that could not be read.
-#[derive(Clone, Copy)]
-pub enum Text {
-    Whole(usize),
-    Unreadable,
-}
-
-fn meaning(answer: io::Result<usize>) -> Move
+// How many bytes a read gave: none only at the end of the input, and a read that fails is not the end.
+fn meaning(answer: io::Result<usize>) -> io::Result<Option<usize>>
     ensures { result ≡ meant answer }
 {
     match answer {
-        Ok(0) => Move::End,
-        Ok(count) => Move::Bytes(count),
-        Err(_) => Move::Failed,
+        Ok(0) => Ok(None),
+        Ok(count) => Ok(Some(count)),
+        Err(error) => Err(error),
     }
 }
 
-// One read.
-fn read_some<R: Read>(reader: &mut R, room: &mut [u8]) -> Move
-    ensures { Fits (length room.old) result }
-{
-    meaning(reader.read(room))
-}
-
-// One read of what is left of a text that is too long; nothing of it is kept.
-fn skip<R: Read>(reader: &mut R) -> Move {
+// What is left of a text that is too long is read and forgotten: to the end of the input, or past 16 petabytes of it.
+fn skip_all<R: Read>(reader: &mut R) -> io::Result<()> {
     let mut space = [0; 65536];
-    read_some(reader, &mut space)
-}
-
-// To the end of the input, or past 16 petabytes of it; whether no read failed.
-fn skip_all<R: Read>(reader: &mut R) -> bool {
     for _ in 0..274877906944u64 {
-        match skip(reader) {
-            Move::Bytes(_) => {}
-            Move::End => return true,
-            Move::Failed => return false,
+        if meaning(reader.read(&mut space))?.is_none() {
+            return Ok(());
         }
     }
-    true
+    Ok(())
 }
 
-// The front of a text that the room holds, to its end or until the room is full.
-fn read_front<R: Read>(reader: &mut R, room: &mut [u8]) -> Text
-    ensures { Inside (length room.new) result }
+// The front of a text that the room holds, to its end or until the room is full; how many bytes.
+fn read_front<R: Read>(reader: &mut R, room: &mut [u8]) -> io::Result<usize>
+    ensures { IfOk result (λ count. Holds (R.remaining reader.old) room.new count) }
 {
     let mut done = 0;
     while done < room.len() {
-        match read_some(reader, &mut room[done..]) {
-            Move::Bytes(more) => done += more,
-            Move::End => return Text::Whole(done),
-            Move::Failed => return Text::Unreadable,
-        }
+        let Some(more) = meaning(reader.read(&mut room[done..]))? else {
+            return Ok(done);
+        };
+        done += more;
     }
-    Text::Whole(done)
+    Ok(done)
 }
 
-// A text, to its end: what finds no room is read and forgotten, so that a writer does not find the pipe closed.
-pub fn read_text<R: Read>(reader: &mut R, room: &mut [u8]) -> Text
-    ensures { Inside (length room.new) result }
+// A text, to its end; how many bytes of it lie in the room. What finds no room is read and forgotten, so that a writer does not find the
+// pipe closed.
+pub fn read_text<R: Read>(reader: &mut R, room: &mut [u8]) -> io::Result<usize>
+    ensures { IfOk result (λ count. Holds (R.remaining reader.old) room.new count) }
 {
-    match read_front(reader, room) {
-        Text::Unreadable => Text::Unreadable,
-        Text::Whole(length) => {
-            if length < room.len() {
-                return Text::Whole(length);
-            }
-            if skip_all(reader) {
-                return Text::Whole(length);
-            }
-            Text::Unreadable
-        }
+    let count = read_front(reader, room)?;
+    if count == room.len() {
+        skip_all(reader)?;
     }
+    Ok(count)
 }

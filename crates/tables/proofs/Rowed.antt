@@ -4,8 +4,8 @@ use mathlib.Core.List.{List, [], ◌∷◌, ◌++◌, map, append_assoc}
 use Prim.Native.Nat.{ℕ, suc, ◌+◌, ◌-◌, ◌*◌, ◌≤◌, ◌<◌}
 use native.Mathlib.Nat.{sub-zero, zero-mul}
 use native.Mathlib.Omega.{arith}
-use lib.ListN.{length, get_or, take, drop, length-drop, length-append}
-use lib.Seq.{length-take-le, take_at, drop_at, take-add, drop-drop, get_or-take, get_or-drop}
+use lib.ListN.{length, take, drop, length-drop, length-append}
+use lib.Seq.{length-take-le, take_at, drop_at, take-add, drop-drop}
 use Rattle.rows.specs.Table.{rows_of, flat, row_at, set_row}
 use Rattle.rows.proofs.Lists.{row-end, row_next}
 use Rattle.rows.proofs.Sweep.{Swept, swept-start, swept-end}
@@ -45,18 +45,6 @@ module _ {A : Type 0} where
             (append_assoc (take i l) row rest' ∙ ap (λ (m : List A). take i l ++ m) (sym e) ∙ s.done);
       }
 
-  -- the row of them that starts at i is left as it is
-  swept-past : {l₀ l goal rest : List A} {i : ℕ} (w : ℕ) (rest' : List A) → rest ≡ take w (drop i l₀) ++ rest'
-      → Swept l₀ l goal i rest → Swept l₀ l goal (i + w) rest'
-  swept-past {l₀} {l} {goal} {rest} {i} w rest' e s =
-      record {
-        len = s.len;
-        ahead = sym (drop-drop w i l) ∙ ap (drop w) s.ahead ∙ drop-drop w i l₀;
-        done =
-            rw (take-add i w l, s.ahead)
-            (append_assoc (take i l) (take w (drop i l₀)) rest' ∙ ap (λ (m : List A). take i l ++ m) (sym e) ∙ s.done);
-      }
-
   -- ---- the sweep over the rows: those before row r have in their place what f gives of them
   module _ (f : List A → List A) (w count : ℕ) where
     -- what f gives of the rows from row r on
@@ -83,29 +71,20 @@ module _ {A : Type 0} where
     pub rowed-start : (t : List A) → Rowed t t 0
     rowed-start t = rw (ahead-start t, zero-mul w) (swept-start t (whole_of t))
 
-    -- row r is as it was at first, and so is each number of it
+    -- row r is as it was at first
     pub rowed-row : {t₀ t : List A} (r : ℕ) → Rowed t₀ t r → row_at w r t ≡ row_at w r t₀
     rowed-row r s = ap (take w) s.ahead
-
-    pub rowed-read : {t₀ t : List A} (r k : ℕ) (d : A) → k < w → Rowed t₀ t r → get_or t (r * w + k) d ≡ get_or (row_at w r t₀) k d
-    rowed-read {t₀} {t} r k d h s =
-        sym (get_or-drop (r * w) t k d) ∙ ap (λ (m : List A). get_or m k d) s.ahead ∙ sym (get_or-take w (drop (r * w) t₀) k d h)
 
     -- the next row starts where this one ends
     next : {t₀ t : List A} (r : ℕ) → Swept t₀ t (whole_of t₀) (r * w + w) (ahead_of (r + 1) t₀) → Rowed t₀ t (r + 1)
     next {t₀} {t} r s = subst (λ (i : ℕ). Swept t₀ t (whole_of t₀) i (ahead_of (r + 1) t₀)) (sym (row_next w r)) s
 
     module _ {t₀ t : List A} (r : ℕ) (h : r < count) (s : Rowed t₀ t r) where
-      -- row r is written
+      -- row r is written, or written as it was where f leaves it so
       pub rowed-step : (row : List A) → length t₀ ≡ count * w → row ≡ f (row_at w r t₀) → length row ≡ w → Rowed t₀ (set_row w r row t) (r + 1)
       rowed-step row l e k =
           let more = ahead_more r t₀ h ∙ ap (λ (m : List A). m ++ ahead_of (r + 1) t₀) (sym e) in
           next r (swept-row w row (ahead_of (r + 1) t₀) (omega (arith, row-end count w r h, s.len)) k more s)
-
-      -- row r is left as it is, where f leaves it so
-      pub rowed-past : f (row_at w r t₀) ≡ row_at w r t₀ → Rowed t₀ t (r + 1)
-      rowed-past e =
-          next r (swept-past w (ahead_of (r + 1) t₀) (ahead_more r t₀ h ∙ ap (λ (m : List A). m ++ ahead_of (r + 1) t₀) e) s)
 
     -- no row is left: the table is what f gives of all of them
     pub rowed-end : {t₀ t : List A} (r : ℕ) → r ≡ count → length t₀ ≡ count * w → Rowed t₀ t r → t ≡ whole_of t₀

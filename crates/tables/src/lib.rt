@@ -13,16 +13,13 @@ pub fn put_in(table: &mut [i64], count: usize, w: usize, k: usize, q: &[i64]) ->
     ensures fits { result ≡ all_within (flat (map (λ row. less row (at row k) q.now) (rows_of w count table.old))) }
 {
     let mut fits = true;
-    let mut r = 0;
-    while r < count {
+    for r in 0..count {
         let start = r * w;
-        let end = start + w;
-        let b = table[start + k];
+        let row = &mut table[start..start + w];
+        let b = row[k];
         if b != 0 {
-            let good = multiples::less_multiple(&mut table[start..end], q, b);
-            fits = fits & good;
+            fits &= multiples::less_multiple(row, q, b);
         }
-        r += 1;
     }
     fits
 }
@@ -33,14 +30,10 @@ pub fn gather(row: &mut [i64], cs: &[i64], table: &[i64])
     ensures { row.new ≡ gathered row.old cs.now (rows_of (length row.old) (length cs.now) table.now) }
 {
     let w = row.len();
-    let mut r = 0;
-    while r < cs.len() {
-        let c = cs[r];
-        if c != 0 {
+    for (r, c) in cs.iter().enumerate() {
+        if *c != 0 {
             let start = r * w;
-            let end = start + w;
-            let _ = multiples::less_multiple(row, &table[start..end], 0 - c);
+            let _ = multiples::less_multiple(row, &table[start..start + w], -*c);
         }
-        r += 1;
     }
 }

@@ -9,6 +9,11 @@ use lib.Dec.{leb}
 use lib.ListN.{length, take, drop, set, drop_of_length-le}
 use lib.Seq.{set_at}
 use lib.IntN.{ℤ, pos, nat_abs}
+use mir.Syntax.{w64}
+use mir.Val.{to_z, of_z, SFits}
+use mir.Facts.{to_z-of_z}
+use Rattle.whole.specs.Limit.{W}
+use Rattle.whole.proofs.Bounds.{bounds, sfits-by}
 use Rattle.whole.specs.Gcd.{divides}
 use Rattle.whole.specs.Quotient.{ceiling}
 use Rattle.rows.specs.Row.{at, gcd_of, divided}
@@ -41,3 +46,7 @@ pub put_last : (n : ℕ) (front row : List ℤ) (z : ℤ) → length front ≡ n
 put_last n front row z e h =
     let one : drop n row ≡ at row n ∷ [] = tail_at row n (pos 0) (omega arith) ∙ ap (λ (l : List ℤ). at row n ∷ l) (drop_of_length-le row {i = n + 1} (omega arith)) in
     ap (λ (l : List ℤ). set (front ++ l) n z) one ∙ set_at front (at row n) [] z n e
+
+-- ---- a number within the limit is read back from its bits as it is
+pub back-small : (z : ℤ) → nat_abs z ≤ W → to_z w64 (of_z w64 z) ≡ z
+back-small z h = let f : SFits w64 z = sfits-by (search bounds) tt in to_z-of_z f

@@ -13,8 +13,7 @@ pub fn sums_into(into: &mut [i64], inequality: &[i64], substitution: &[i64], n: 
     ensures { into.new ≡ sums_of n (rows_of (suc n) n substitution.now) inequality.now }
 {
     copying::fill(into, 0);
-    let c = inequality[n];
-    into[n] = c;
+    into[n] = inequality[n];
     tables::gather(into, &inequality[..n], substitution);
 }
 
@@ -23,12 +22,10 @@ pub fn only_open(row: &mut [i64], marks: &[u8])
     requires { length row.old ≡ suc (length marks.now) }
     ensures { row.new ≡ only_open marks.now row.old }
 {
-    let mut k = 0;
-    while k < marks.len() {
-        if marks[k] == 0 {
+    for (k, mark) in marks.iter().enumerate() {
+        if *mark == 0 {
             row[k] = 0;
         }
-        k += 1;
     }
 }
 
@@ -38,11 +35,8 @@ pub fn tighten(row: &mut [i64], n: usize)
     ensures { row.new ≡ tighten_of n row.old }
 {
     let g = rows::gcd_of(&row[..n]);
-    if g < 2 {
-        return;
-    }
     let c = row[n];
-    if whole::magnitude(c) % g == 0 {
+    if g < 2 || whole::magnitude(c) % g == 0 {
         return;
     }
     let by = whole::signed(g);

@@ -2,6 +2,7 @@
 use Rattle.std.specs.Prelude.{List, [], ◌∷◌, ◌++◌, map, ℕ, suc, get_or, take, set, ℤ}
 use Rattle.rows.specs.Row.{gathered, unit_row, all_within}
 use Rattle.rows.specs.Table.{rows_of, flat}
+use Rattle.rules.specs.declared.StateTables.{StateTables}
 use Rattle.rules.specs.Elimination.{Step, step_of, put_in, way_back_row}
 use Rattle.steps.specs.Shown.{Tried, tried}
 
@@ -37,6 +38,13 @@ turn_by n t rows substitution way_back = tried (all_within (listed_turn n t rows
 abbrev pub turn_of : ℕ → ℕ → List ℤ → List ℤ → List ℤ → Tried Turned
 turn_of n count rows substitution way_back =
     turn_by n (step_of n (take (suc n) rows)) (rows_of (suc n) count rows) (rows_of (suc n) n substitution) (rows_of (suc n) n way_back)
+
+-- the same of the tables of the run's state, as the caller lends them
+abbrev pub turned_state : ℕ → ℕ → List ℤ → StateTables → Turned
+turned_state n count rows state = turned_tables n count rows state.substitution.now state.way_back.now
+
+abbrev pub turn_state : ℕ → ℕ → List ℤ → StateTables → Tried Turned
+turn_state n count rows state = turn_of n count rows state.substitution.now state.way_back.now
 
 -- row k of the way back gains the rows as often as q says, and q's constant: `way_back_row` of a step with column k and quotients q. Then the
 -- table with it, or that it is beyond the limit

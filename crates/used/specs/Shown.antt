@@ -1,6 +1,7 @@
 -- How the result tables of the run show the state that the definitions speak of.
 use Rattle.std.specs.Prelude.{List, [], ℕ, suc, ℤ}
 use Rattle.rows.specs.Table.{rows_of}
+use Rattle.rules.specs.declared.StateTables.{StateTables}
 use Rattle.rules.specs.Elimination.{State}
 
 -- the state that the result tables of the run show; its steps are not looked at
@@ -12,3 +13,7 @@ shown_state n m substitution marks reasons = record {
   reasons = rows_of (suc m) n reasons;
   steps = 0;
 }
+
+-- the same of tables that are lent in one value
+abbrev pub state_in : ℕ → ℕ → StateTables → State
+state_in n m state = shown_state n m state.substitution.now state.marks.now state.reasons.now

@@ -12,13 +12,15 @@ use Rattle.wellformed.specs.Grammar.{WellFormed}
 use Rattle.matrix.specs.Machine.{begin, step}
 use Rattle.matrix.specs.Reader.{is_dead, counted, scan}
 use Rattle.matrix.specs.declared.Machine.{Machine}
-use Rattle.rules.specs.declared.Reading.{Reading}
-use Rattle.rules.specs.declared.Reading.TheVariants.{System, Unread}
 use Rattle.wellformed.specs.Promised.{Shared, LongestShared}
 use Rattle.wellformed.proofs.Runs.{run, run-append, Accepts, dead-stays, dead-refuses}
 use Rattle.wellformed.proofs.Continuing.{continues}
 use Rattle.wellformed.proofs.Saying.{accepts-says}
 use Rattle.wellformed.proofs.Scanning.{Scanned, killed, beyond_here, later, unfinished, beyond_at_end, finished, scanned}
+use Rattle.std.specs.Prelude.{Result, Err}
+use Rattle.rules.specs.declared.Refusal.{Refusal}
+use Rattle.rules.specs.declared.System.{System}
+use Rattle.rules.specs.Reading.{system_of}
 
 -- ---- the machine alive behind a beginning: some well-formed text begins so
 
@@ -44,17 +46,17 @@ record Stopped (m : Machine) (bytes : List ℕ) (n : ℕ) : Type 0 where
   pub dies : n < length bytes → is_dead (run m (take (suc n) bytes)).phase ≡ true
   pub refuses : Accepts m bytes → ⊥
 
-never-counted : (m : Machine) (place : ℕ) → counted m ≡ Unread (Malformed place) → ⊥
+never-counted : (m : Machine) (place : ℕ) → counted m ≡ Err (Malformed place) → ⊥
 unfolding counted
 never-counted m place = go (leb m.equations 32 && leb m.inequalities 64)
   where
-    go : (few : Bool) → cond few (System (m.columns - 2) m.equations m.inequalities) (Unread OutOfRange) ≡ Unread (Malformed place) → ⊥
+    go : (few : Bool) → cond few (system_of (m.columns - 2) m.equations m.inequalities) (Err OutOfRange) ≡ Err (Malformed place) → ⊥
     go true e = let z : ◌≡◌ {A = ℕ} 0 1 = cc in omega arith
     go false e = let z : ◌≡◌ {A = ℕ} 0 1 = cc in omega arith
 
 -- how many bytes behind the first
-stops : {m : Machine} {bytes : List ℕ} {place : ℕ} {reading : Reading} → Scanned m bytes place reading
-    → (p : ℕ) → reading ≡ Unread (Malformed p) → (n : ℕ) × (p ≡ place + n) × Stopped m bytes n
+stops : {m : Machine} {bytes : List ℕ} {place : ℕ} {reading : Result System Refusal} → Scanned m bytes place reading
+    → (p : ℕ) → reading ≡ Err (Malformed p) → (n : ℕ) × (p ≡ place + n) × Stopped m bytes n
 unfolding run
 stops (killed {m = m} {b = b} {place = place} {bytes = bytes} dead) p e =
     let same : place ≡ p = cc in (
@@ -95,7 +97,7 @@ stops (finished {m = m} a) p e = absurd (never-counted (step m line_feed) p e)
 
 -- "Refusal 6 gives the length of the longest beginning that some well-formed text shares."
 pub longest : ((t : List ℕ) → WellFormed t → Accepts begin t) → (text : List ℕ) (place : ℕ)
-    → scan begin 0 text ≡ Unread (Malformed place) → LongestShared text place
+    → scan begin 0 text ≡ Err (Malformed place) → LongestShared text place
 unfolding begin
 longest accepted text place e =
     let (n, same, stopped') = stops (scanned begin 0 text) place e in
@@ -114,8 +116,8 @@ longest accepted text place e =
     }
 
 -- ---- a text that is read
-accepts-read : {m : Machine} {bytes : List ℕ} {place : ℕ} {reading : Reading} → Scanned m bytes place reading
-    → (n rows others : ℕ) → reading ≡ System n rows others → Accepts m bytes
+accepts-read : {m : Machine} {bytes : List ℕ} {place : ℕ} {reading : Result System Refusal} → Scanned m bytes place reading
+    → (n rows others : ℕ) → reading ≡ system_of n rows others → Accepts m bytes
 unfolding run
 accepts-read (killed dead) n rows others e = let z : ◌≡◌ {A = ℕ} 0 1 = cc in absurd (omega arith)
 accepts-read (beyond_here out) n rows others e = let z : ◌≡◌ {A = ℕ} 0 1 = cc in absurd (omega arith)
@@ -126,5 +128,5 @@ accepts-read (unfinished refused) n rows others e = let z : ◌≡◌ {A = ℕ} 
 accepts-read (beyond_at_end other out) n rows others e = let z : ◌≡◌ {A = ℕ} 0 1 = cc in absurd (omega arith)
 accepts-read (finished a) n rows others e = a
 
-pub read_only : (text : List ℕ) (n m k : ℕ) → scan begin 0 text ≡ System n m k → WellFormed text
+pub read_only : (text : List ℕ) (n m k : ℕ) → scan begin 0 text ≡ system_of n m k → WellFormed text
 read_only text n m k e = accepts-says text (accepts-read (scanned begin 0 text) n m k e)

@@ -8,8 +8,6 @@ use borrow.Author.Tests.{ltb-true, ltb-false}
 use lib.Dec.{leb, ltb}
 use lib.ListN.{take, drop}
 use Rattle.rules.specs.declared.Refusal.TheVariants.{OutOfRange, Malformed}
-use Rattle.rules.specs.declared.Reading.{Reading}
-use Rattle.rules.specs.declared.Reading.TheVariants.{System, Unread}
 use Rattle.matrix.specs.Bytes.{line_feed}
 use Rattle.wellformed.specs.Grammar.{WellFormed}
 use Rattle.matrix.specs.Machine.{step}
@@ -17,6 +15,10 @@ use Rattle.matrix.specs.Reader.{counted}
 use Rattle.matrix.specs.declared.Machine.{Machine}
 use Rattle.wellformed.specs.Promised.{Shared, LongestShared}
 use Rattle.wellformed.proofs.Scanning.{Scanned, killed, beyond_here, later, unfinished, beyond_at_end, finished}
+use Rattle.std.specs.Prelude.{Result, Err}
+use Rattle.rules.specs.declared.Refusal.{Refusal}
+use Rattle.rules.specs.declared.System.{System}
+use Rattle.rules.specs.Reading.{system_of}
 
 -- ---- a beginning of a shared beginning is shared
 
@@ -53,20 +55,20 @@ one_place text p q a b = go (ltb p q) refl (ltb q p) refl
 
 -- ---- what a scan answers
 
-pub data Scans : Reading → Type 0 where
-  a_system : (n m k : ℕ) → Scans (System n m k)
-  refused : Scans (Unread OutOfRange)
-  malformed : (place : ℕ) → Scans (Unread (Malformed place))
+pub data Scans : Result System Refusal → Type 0 where
+  a_system : (n m k : ℕ) → Scans (system_of n m k)
+  refused : Scans (Err OutOfRange)
+  malformed : (place : ℕ) → Scans (Err (Malformed place))
 
 counts : (m : Machine) → Scans (counted m)
 unfolding counted
 counts m = go (leb m.equations 32 && leb m.inequalities 64)
   where
-    go : (few : Bool) → Scans (cond few (System (m.columns - 2) m.equations m.inequalities) (Unread OutOfRange))
+    go : (few : Bool) → Scans (cond few (system_of (m.columns - 2) m.equations m.inequalities) (Err OutOfRange))
     go true = a_system (m.columns - 2) m.equations m.inequalities
     go false = refused
 
-pub scans : {m : Machine} {bytes : List ℕ} {place : ℕ} {reading : Reading} → Scanned m bytes place reading → Scans reading
+pub scans : {m : Machine} {bytes : List ℕ} {place : ℕ} {reading : Result System Refusal} → Scanned m bytes place reading → Scans reading
 scans (killed {place = place} dead) = malformed place
 scans (beyond_here out) = refused
 scans (later alive rest) = scans rest

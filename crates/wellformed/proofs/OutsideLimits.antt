@@ -15,14 +15,15 @@ use Rattle.matrix.specs.Reader.{is_start, counts_fit, beyond, scan}
 use Rattle.matrix.specs.declared.Phase.{Phase}
 use Rattle.matrix.specs.declared.Phase.TheVariants.{Start, Lead, Marked, Signed, Digits, Gap, Return, Comment, Dead}
 use Rattle.matrix.specs.declared.Machine.{Machine}
-use Rattle.rules.specs.declared.Reading.{Reading}
-use Rattle.rules.specs.declared.Reading.TheVariants.{Unread}
 use Rattle.wellformed.specs.Promised.{Headed}
 use Rattle.wellformed.proofs.Runs.{run, Accepts}
 use Rattle.wellformed.proofs.Following.{Following, Heads, skip, head, Rest, Ended}
 use Rattle.wellformed.proofs.Backwards.{back, back_end}
 use Rattle.wellformed.proofs.Saying.{accepts-says}
 use Rattle.wellformed.proofs.Scanning.{Scanned, killed, beyond_here, later, unfinished, beyond_at_end, finished, scanned, both}
+use Rattle.std.specs.Prelude.{Result, Err}
+use Rattle.rules.specs.declared.Refusal.{Refusal}
+use Rattle.rules.specs.declared.System.{System}
 
 -- one row more fits no better
 fits-less : (columns rows : ℕ) → counts_fit rows columns ≡ false → counts_fit (suc rows) columns ≡ false
@@ -75,7 +76,7 @@ ended-beyond : (m : Machine) → beyond m ≡ true → Ended any_lines m []
 unfolding any_lines
 ended-beyond m out = let (start, read, unfit) = beyond-is m out in rw (start, read) unfit
 
-beyond-or-accepted : {m : Machine} {bytes : List ℕ} {place : ℕ} {reading : Reading} → Scanned m bytes place reading → reading ≡ Unread OutOfRange
+beyond-or-accepted : {m : Machine} {bytes : List ℕ} {place : ℕ} {reading : Result System Refusal} → Scanned m bytes place reading → reading ≡ Err OutOfRange
     → Rest any_lines m bytes ⊎ Accepts m bytes
 unfolding run
 beyond-or-accepted (killed dead) e = let z : ◌≡◌ {A = ℕ} 0 1 = cc in absurd (omega arith)
@@ -100,7 +101,7 @@ headed (head {rows = rows} {columns = columns} line unfit) last = (rows, columns
 headed (head {rows = rows} {columns = columns} line unfit) (feed {bytes = bytes} lines) = (rows, columns, Headed.feed bytes line, unfit)
 headed (head {rows = rows} {columns = columns} line unfit) (return_feed {bytes = bytes} lines) = (rows, columns, Headed.return_feed bytes line, unfit)
 
-pub out_of_range : (text : List ℕ) → scan begin 0 text ≡ Unread OutOfRange
+pub out_of_range : (text : List ℕ) → scan begin 0 text ≡ Err OutOfRange
     → ((rows : ℕ) × (columns : ℕ) × Headed rows columns text × (counts_fit rows columns ≡ false)) ⊎ WellFormed text
 unfolding begin
 out_of_range text e =

@@ -15,11 +15,13 @@ use Rattle.wellformed.specs.Grammar.{Row, RowLine, row, Body, Matrix, Says}
 use Rattle.matrix.specs.Machine.{begin}
 use Rattle.matrix.specs.Poured.{poured}
 use Rattle.matrix.specs.Reader.{counts_fit, scan, filled, read}
-use Rattle.rules.specs.declared.Reading.{Reading}
-use Rattle.rules.specs.declared.Reading.TheVariants.{System, Unread}
 use Rattle.wellformed.specs.Promised.{rows_of_kind, entered, packed, answered, RowsPacked}
 use Rattle.wellformed.proofs.Scanning.{both}
 use Rattle.wellformed.proofs.WellFormedRead.{read-says, numbers-say}
+use Rattle.std.specs.Prelude.{Result, Err, Ok}
+use Rattle.rules.specs.declared.Refusal.{Refusal}
+use Rattle.rules.specs.declared.System.{System}
+use Rattle.rules.specs.Reading.{system_of}
 
 -- ---- lengths
 
@@ -67,12 +69,16 @@ pub record Answering (columns : ℕ) (matrix : List Row) (n m k : ℕ) : Type 0 
   pub few_equations : m ≤ 32
   pub few_inequalities : k ≤ 64
 
-pub answering : (rows columns : ℕ) (matrix : List Row) (n m k : ℕ) → answered rows columns matrix ≡ System n m k → Answering columns matrix n m k
+one-system : {a b : System} → ◌≡◌ {A = Result System Refusal} (Ok a) (Ok b) → a ≡ b
+one-system e = cc
+
+pub answering : (rows columns : ℕ) (matrix : List Row) (n m k : ℕ) → answered rows columns matrix ≡ system_of n m k → Answering columns matrix n m k
 unfolding answered
 answering rows columns matrix n m k = go (counts_fit rows columns && (leb (rows_of_kind false matrix) 32 && leb (rows_of_kind true matrix) 64)) refl
   where
     go : (fit : Bool) → (counts_fit rows columns && (leb (rows_of_kind false matrix) 32 && leb (rows_of_kind true matrix) 64)) ≡ fit
-        → cond fit (System (columns - 2) (rows_of_kind false matrix) (rows_of_kind true matrix)) (Unread OutOfRange) ≡ System n m k → Answering columns matrix n m k
+        → cond fit (system_of (columns - 2) (rows_of_kind false matrix) (rows_of_kind true matrix)) (Err OutOfRange) ≡ system_of n m k
+        → Answering columns matrix n m k
     go false unfit e = let z : ◌≡◌ {A = ℕ} 0 1 = cc in absurd (omega arith)
     go true fits e =
         let (counts, kinds) = both (counts_fit rows columns) _ fits in
@@ -83,9 +89,10 @@ answering rows columns matrix n m k = go (counts_fit rows columns && (leb (rows_
         let most = leb-true columns 34 high in
         let one = leb-true (rows_of_kind false matrix) 32 few_equations in
         let other = leb-true (rows_of_kind true matrix) 64 few_inequalities in
-        let unknowns : columns - 2 ≡ n = cc in
-        let equations : rows_of_kind false matrix ≡ m = cc in
-        let inequalities : rows_of_kind true matrix ≡ k = cc in
+        let same = one-system e in
+        let unknowns : columns - 2 ≡ n = ap (λ (s : System). s.n) same in
+        let equations : rows_of_kind false matrix ≡ m = ap (λ (s : System). s.m) same in
+        let inequalities : rows_of_kind true matrix ≡ k = ap (λ (s : System). s.k) same in
         record {
           equations_are = sym equations;
           inequalities_are = sym inequalities;
@@ -119,10 +126,10 @@ unfolding read
 read-filled text equations inequalities long long' short =
     rw (eq-eqb (length equations) 1056 long, eq-eqb (length inequalities) 2112 long', le-leb (length text) 65536 short)
 
-filled-reading : (reading : Reading) (text : List ℕ) → (filled reading text).reading ≡ reading
+filled-reading : (reading : Result System Refusal) (text : List ℕ) → (filled reading text).reading ≡ reading
 unfolding filled
-filled-reading (System n m k) text = refl
-filled-reading (Unread refusal) text = refl
+filled-reading (Ok s) text = refl
+filled-reading (Err refusal) text = refl
 
 pub reading-filled : (text : List ℕ) (equations inequalities : List ℤ) → length equations ≡ 1056 → length inequalities ≡ 2112 → length text ≤ 65536
     → (read text equations inequalities).reading ≡ scan begin 0 text
@@ -132,7 +139,7 @@ reading-filled text equations inequalities long long' short =
 -- ---- what a system's two tables hold
 
 pub packed-rows : {rows columns : ℕ} {matrix : List Row} (text : List ℕ) (n m k : ℕ) → Says text rows columns matrix
-    → answered rows columns matrix ≡ System n m k → RowsPacked text matrix n m k
+    → answered rows columns matrix ≡ system_of n m k → RowsPacked text matrix n m k
 unfolding filled
 packed-rows {rows} {columns} {matrix} text n m k s e =
     let a = answering rows columns matrix n m k e in

@@ -9,17 +9,18 @@ use Rattle.matrix.specs.Bytes.{line_feed, carriage_return}
 use Rattle.matrix.specs.Machine.{step}
 use Rattle.matrix.specs.Reader.{is_start, is_digits, is_return, is_dead, beyond, closed, at_end, scan, entry_of, ends, numbers}
 use Rattle.matrix.specs.declared.Machine.{Machine}
-use Rattle.rules.specs.declared.Reading.{Reading}
-use Rattle.rules.specs.declared.Reading.TheVariants.{Unread}
 use Rattle.wellformed.proofs.Runs.{run}
+use Rattle.std.specs.Prelude.{Result, Err}
+use Rattle.rules.specs.declared.Refusal.{Refusal}
+use Rattle.rules.specs.declared.System.{System}
 
 -- a scan of these bytes answers this, wherever the first of them stands in the text
-abbrev pub Answers : Machine → List ℕ → Reading → Type 0
+abbrev pub Answers : Machine → List ℕ → Result System Refusal → Type 0
 Answers m bytes reading = (place : ℕ) → scan m place bytes ≡ reading
 
 -- the same behind a line end, where the limits of the header are tested
-abbrev pub AnswersOn : Machine → List ℕ → Reading → Type 0
-AnswersOn m bytes reading = (place : ℕ) → cond (beyond m) (Unread OutOfRange) (scan m place bytes) ≡ reading
+abbrev pub AnswersOn : Machine → List ℕ → Result System Refusal → Type 0
+AnswersOn m bytes reading = (place : ℕ) → cond (beyond m) (Err OutOfRange) (scan m place bytes) ≡ reading
 
 pub data LineEnd : List ℕ → Type 0 where
   by_feed : LineEnd (line_feed ∷ [])
@@ -42,16 +43,16 @@ module _ (which : Bool) where
   -- a piece inside a line leads from m to m' and gives these entries, whatever more there is; a number's entry is given behind it, by the byte that ends it
   pub record Passage (m : Machine) (bytes : List ℕ) (m' : Machine) (entries : List ℤ) : Type 0 where
     pub runs : (more : List ℕ) → run m (bytes ++ more) ≡ run m' more
-    pub scans : (more : List ℕ) (reading : Reading) → Answers m' more reading → Answers m (bytes ++ more) reading
+    pub scans : (more : List ℕ) (reading : Result System Refusal) → Answers m' more reading → Answers m (bytes ++ more) reading
     pub packs : (more : List ℕ) → numbers which m (bytes ++ more) ≡ entries ++ numbers which m' more
 
   -- a whole line, or the rest of one: what its end makes of it, by line feed, by carriage return and line feed, or by the end of the text
   pub record Line (m : Machine) (bytes : List ℕ) (m' : Machine) (entries : List ℤ) : Type 0 where
     pub ended : is_return (run m bytes).phase ≡ false
     pub closes : step (run m bytes) line_feed ≡ m'
-    pub stops : (reading : Reading) → ((place : ℕ) → closed m' place ≡ reading) → Answers m bytes reading
+    pub stops : (reading : Result System Refusal) → ((place : ℕ) → closed m' place ≡ reading) → Answers m bytes reading
     pub runs : {close : List ℕ} → LineEnd close → (more : List ℕ) → run m (bytes ++ (close ++ more)) ≡ run m' more
-    pub scans : {close : List ℕ} → LineEnd close → (more : List ℕ) (reading : Reading) → AnswersOn m' more reading → Answers m (bytes ++ (close ++ more)) reading
+    pub scans : {close : List ℕ} → LineEnd close → (more : List ℕ) (reading : Result System Refusal) → AnswersOn m' more reading → Answers m (bytes ++ (close ++ more)) reading
     pub packs : {close : List ℕ} → LineEnd close → (more : List ℕ) → numbers which m (bytes ++ (close ++ more)) ≡ entries ++ numbers which m' more
 
   -- ---- pieces join
@@ -101,7 +102,7 @@ module _ (which : Bool) where
     unfolding run
     fed-runs x e more = ap (λ y. run y more) e
 
-    fed-scans : (x : Machine) → step x line_feed ≡ m' → (more : List ℕ) (reading : Reading) → AnswersOn m' more reading → Answers x (line_feed ∷ more) reading
+    fed-scans : (x : Machine) → step x line_feed ≡ m' → (more : List ℕ) (reading : Result System Refusal) → AnswersOn m' more reading → Answers x (line_feed ∷ more) reading
     unfolding scan
     fed-scans x e more reading h place = rw (e, alive) (h (suc place))
 
@@ -113,7 +114,7 @@ module _ (which : Bool) where
     ends-runs by_feed more = fed-runs m feed more
     ends-runs by_return more = returned.runs (line_feed ∷ more) ∙ fed-runs (step m carriage_return) back more
 
-    ends-scans : {close : List ℕ} → LineEnd close → (more : List ℕ) (reading : Reading) → AnswersOn m' more reading → Answers m (close ++ more) reading
+    ends-scans : {close : List ℕ} → LineEnd close → (more : List ℕ) (reading : Result System Refusal) → AnswersOn m' more reading → Answers m (close ++ more) reading
     ends-scans by_feed more reading h = fed-scans m feed more reading h
     ends-scans by_return more reading h = returned.scans (line_feed ∷ more) reading (fed-scans (step m carriage_return) back more reading h)
 

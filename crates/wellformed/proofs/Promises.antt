@@ -9,11 +9,9 @@ use lib.IntN.{ℤ}
 use Rattle.rows.specs.Row.{zeros}
 use Rattle.rules.specs.Numbers.{of_reading}
 use Rattle.rules.specs.declared.Refusal.TheVariants.{OutOfRange, Malformed}
-use Rattle.rules.specs.declared.Reading.{Reading}
 use Rattle.wellformed.specs.Grammar.{Row, Says}
 use Rattle.matrix.specs.Machine.{begin}
 use Rattle.matrix.specs.Reader.{scan, Read, read}
-use Rattle.rules.specs.declared.Reading.TheVariants.{System, Unread}
 use Rattle.wellformed.specs.Promised.{answered, RowsPacked, LongestShared, BeyondLimits, by_header, by_matrix, Taken, Due}
 use Rattle.wellformed.proofs.Longest.{longest, read_only}
 use Rattle.wellformed.proofs.OutsideLimits.{out_of_range}
@@ -22,6 +20,10 @@ use Rattle.wellformed.proofs.PackedRows.{reading-filled, packed-rows}
 use Rattle.wellformed.proofs.Scanning.{scanned}
 use Rattle.wellformed.proofs.OnePlace.{Scans, a_system, refused, malformed, scans, one_place}
 use Rattle.wellformed.proofs.ReadWays.{Way, wrong_lengths, too_long, as_system, as_refused, as_malformed, way, lengths-refused, length-refused}
+use Rattle.std.specs.Prelude.{Result, Err}
+use Rattle.rules.specs.declared.Refusal.{Refusal}
+use Rattle.rules.specs.declared.System.{System}
+use Rattle.rules.specs.Reading.{system_of}
 
 -- row tables of the right lengths and a text that is not too long: the reader answers what the scan of the text does
 pub read-scanned : (text : List ℕ) (equations inequalities : List ℤ) → length equations ≡ 1056 → length inequalities ≡ 2112 → length text ≤ 65536
@@ -35,43 +37,43 @@ well-formed-read text s = read-says text s
 
 -- its rows are then at the front of the two tables, the inequalities negated, and zeros behind
 pub rows-packed : {rows columns : ℕ} {matrix : List Row} (text : List ℕ) (n m k : ℕ) → Says text rows columns matrix
-    → answered rows columns matrix ≡ System n m k → RowsPacked text matrix n m k
+    → answered rows columns matrix ≡ system_of n m k → RowsPacked text matrix n m k
 rows-packed text n m k s e = packed-rows text n m k s e
 
 -- and no other text is
-pub system-said : (text : List ℕ) (n m k : ℕ) → scan begin 0 text ≡ System n m k
-    → (rows : ℕ) × (columns : ℕ) × (matrix : List Row) × Says text rows columns matrix × (answered rows columns matrix ≡ System n m k)
+pub system-said : (text : List ℕ) (n m k : ℕ) → scan begin 0 text ≡ system_of n m k
+    → (rows : ℕ) × (columns : ℕ) × (matrix : List Row) × Says text rows columns matrix × (answered rows columns matrix ≡ system_of n m k)
 system-said text n m k e =
     let formed = read_only text n m k e in
     (formed.rows, formed.columns, formed.matrix, formed.says, sym (read-says text formed.says) ∙ e)
 
 -- exactly these texts
-pub refusal-one : (text : List ℕ) → (scan begin 0 text ≡ Unread OutOfRange) ↔ BeyondLimits text
+pub refusal-one : (text : List ℕ) → (scan begin 0 text ≡ Err OutOfRange) ↔ BeyondLimits text
 refusal-one text = (due, given)
   where
-    due : scan begin 0 text ≡ Unread OutOfRange → BeyondLimits text
+    due : scan begin 0 text ≡ Err OutOfRange → BeyondLimits text
     due e =
         ⊎_elim (λ h. by_header h.2 h.3) (λ formed. by_matrix formed.says (sym (read-says text formed.says) ∙ e)) (out_of_range text e)
 
-    given : BeyondLimits text → scan begin 0 text ≡ Unread OutOfRange
+    given : BeyondLimits text → scan begin 0 text ≡ Err OutOfRange
     given (by_header headed unfit) = headed-refused text headed unfit
     given (by_matrix s e) = read-says text s ∙ e
 
 -- "Refusal 6 gives the length of the longest beginning that some well-formed text shares.": exactly these texts
 pub refusal-six : (text : List ℕ) (place : ℕ)
-    → (scan begin 0 text ≡ Unread (Malformed place)) ↔ ((BeyondLimits text → ⊥) × LongestShared text place)
+    → (scan begin 0 text ≡ Err (Malformed place)) ↔ ((BeyondLimits text → ⊥) × LongestShared text place)
 refusal-six text place = (due, given)
   where
-    due : scan begin 0 text ≡ Unread (Malformed place) → (BeyondLimits text → ⊥) × LongestShared text place
+    due : scan begin 0 text ≡ Err (Malformed place) → (BeyondLimits text → ⊥) × LongestShared text place
     due e = (λ beyond. let other = (refusal-one text).1 beyond in let z : ◌≡◌ {A = ℕ} 0 1 = cc in omega arith, longest says-accepts text place e)
 
-    given : (BeyondLimits text → ⊥) × LongestShared text place → scan begin 0 text ≡ Unread (Malformed place)
+    given : (BeyondLimits text → ⊥) × LongestShared text place → scan begin 0 text ≡ Err (Malformed place)
     given h = go (scans (scanned begin 0 text)) refl
       where
-        go : {reading : Reading} → Scans reading → scan begin 0 text ≡ reading → reading ≡ Unread (Malformed place)
+        go : {reading : Result System Refusal} → Scans reading → scan begin 0 text ≡ reading → reading ≡ Err (Malformed place)
         go (a_system n m k) e = absurd (h.1.not_whole (read_only text n m k e))
         go refused e = absurd (h.0 ((refusal-one text).0 e))
-        go (malformed p) e = ap (λ q. Unread (Malformed q)) (one_place text p place (longest says-accepts text p e) h.1)
+        go (malformed p) e = ap (λ q. Err (Malformed q)) (one_place text p place (longest says-accepts text p e) h.1)
 
 -- ---- what the reader answers, by the document's numbers: exactly what is due
 pub exactly-read : (text : List ℕ) (equations inequalities : List ℤ) (numbers : List ℕ)
@@ -90,7 +92,7 @@ exactly-read text equations inequalities numbers = (λ e. subst (Due text equati
         let (inside, shared) = (refusal-six text place).0 s in
         Due.six taken inside shared
 
-    scanned-as : Taken text equations inequalities → {reading : Reading} → scan begin 0 text ≡ reading → (read text equations inequalities).reading ≡ reading
+    scanned-as : Taken text equations inequalities → {reading : Result System Refusal} → scan begin 0 text ≡ reading → (read text equations inequalities).reading ≡ reading
     scanned-as taken s = read-scanned text equations inequalities taken.0.0 taken.0.1 taken.1 ∙ s
 
     given : {numbers : List ℕ} → Due text equations inequalities numbers → of_reading (read text equations inequalities).reading ≡ numbers

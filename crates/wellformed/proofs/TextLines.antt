@@ -11,9 +11,11 @@ use Rattle.wellformed.specs.Grammar.{Lines, last, feed, return_feed}
 use Rattle.matrix.specs.Machine.{step}
 use Rattle.matrix.specs.Reader.{is_return, beyond, closed, numbers}
 use Rattle.matrix.specs.declared.Machine.{Machine}
-use Rattle.rules.specs.declared.Reading.{Reading}
 use Rattle.wellformed.proofs.Runs.{run}
 use Rattle.wellformed.proofs.Passages.{Answers, LineEnd, by_feed, by_return, Line}
+use Rattle.std.specs.Prelude.{Result}
+use Rattle.rules.specs.declared.Refusal.{Refusal}
+use Rattle.rules.specs.declared.System.{System}
 
 -- a text has at least one line
 no_lines : {lines : List (List ℕ)} {text : List ℕ} → Lines lines text → lines ≡ [] → ⊥
@@ -34,14 +36,14 @@ module _ (which : Bool) where
     pub some : {text : List ℕ} → Lines lines text → Text m text m' entries
 
   -- likewise for what a scan of such a text answers
-  pub record Answered (m : Machine) (lines : List (List ℕ)) (reading : Reading) : Type 0 where
+  pub record Answered (m : Machine) (lines : List (List ℕ)) (reading : Result System Refusal) : Type 0 where
     pub none : lines ≡ [] → (place : ℕ) → closed m place ≡ reading
     pub some : {text : List ℕ} → Lines lines text → Answers m text reading
 
   pub through-none : (m : Machine) → Through m [] m []
   through-none m = record { none = λ _. (refl, refl); some = λ lines. absurd (no_lines lines refl) }
 
-  pub answered-none : (m : Machine) (reading : Reading) → ((place : ℕ) → closed m place ≡ reading) → Answered m [] reading
+  pub answered-none : (m : Machine) (reading : Result System Refusal) → ((place : ℕ) → closed m place ≡ reading) → Answered m [] reading
   answered-none m reading closing = record { none = λ _. closing; some = λ lines. absurd (no_lines lines refl) }
 
   -- ---- one line more in front
@@ -67,11 +69,11 @@ module _ (which : Bool) where
     pub through-line : {m'' : Machine} {lines : List (List ℕ)} {f : List ℤ} → Through m' lines m'' f → Through m (line ∷ lines) m'' (e ++ f)
     through-line rest = record { none = λ nil. absurd (omega (arith, ap length nil)); some = λ lines. line-text rest lines }
 
-    line-answers : beyond m' ≡ false → {lines : List (List ℕ)} {reading : Reading} {text : List ℕ}
+    line-answers : beyond m' ≡ false → {lines : List (List ℕ)} {reading : Result System Refusal} {text : List ℕ}
         → Answered m' lines reading → Lines (line ∷ lines) text → Answers m text reading
     line-answers within {reading = reading} rest last = l.stops reading (rest.none refl)
     line-answers within {reading = reading} rest (feed {bytes = bytes} lines) = l.scans by_feed bytes reading λ place. rw within (rest.some lines place)
     line-answers within {reading = reading} rest (return_feed {bytes = bytes} lines) = l.scans by_return bytes reading λ place. rw within (rest.some lines place)
 
-    pub answered-line : beyond m' ≡ false → {lines : List (List ℕ)} {reading : Reading} → Answered m' lines reading → Answered m (line ∷ lines) reading
+    pub answered-line : beyond m' ≡ false → {lines : List (List ℕ)} {reading : Result System Refusal} → Answered m' lines reading → Answered m (line ∷ lines) reading
     answered-line within rest = record { none = λ nil. absurd (omega (arith, ap length nil)); some = λ lines. line-answers within rest lines }

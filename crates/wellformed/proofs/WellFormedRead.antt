@@ -11,12 +11,12 @@ use Rattle.matrix.specs.Machine.{begin, step}
 use Rattle.matrix.specs.Reader.{is_return, counts_fit, beyond, counted, closed, scan, numbers_of}
 use Rattle.matrix.specs.declared.Phase.TheVariants.{Start}
 use Rattle.matrix.specs.declared.Machine.{Machine}
-use Rattle.rules.specs.declared.Reading.TheVariants.{Unread}
 use Rattle.wellformed.specs.Promised.{rows_of_kind, packed, answered, Headed}
 use Rattle.wellformed.proofs.Runs.{run, Accepts}
 use Rattle.wellformed.proofs.Passages.{Answers, by_feed, by_return}
 use Rattle.wellformed.proofs.LineKinds.{at_line, HeaderPassed, header-line, skipped-line}
 use Rattle.wellformed.proofs.TextReads.{Passed, matrix-lines}
+use Rattle.std.specs.Prelude.{Err}
 
 -- ---- the machine behind the text's last line
 
@@ -60,7 +60,7 @@ numbers-say text inequality s = ((says-passes inequality s).passes.some s.cut).p
 
 -- ---- a header out of range
 
-beyond-closed : (m : Machine) → beyond (at_line true m) ≡ true → (place : ℕ) → closed (at_line true m) place ≡ Unread OutOfRange
+beyond-closed : (m : Machine) → beyond (at_line true m) ≡ true → (place : ℕ) → closed (at_line true m) place ≡ Err OutOfRange
 unfolding closed
 beyond-closed m out place = rw out
 
@@ -69,23 +69,23 @@ module _ (rows columns : ℕ) (unfit : counts_fit rows columns ≡ false) where
   unfolding beyond
   beyond-header p = rw (p.rows_are, p.columns_are, unfit)
 
-  headed-answers : (m : Machine) {text : List ℕ} → Headed rows columns text → Answers (at_line false m) text (Unread OutOfRange)
+  headed-answers : (m : Machine) {text : List ℕ} → Headed rows columns text → Answers (at_line false m) text (Err OutOfRange)
   unfolding beyond
   headed-answers m (Headed.skip {bytes = bytes} skipped headed) =
-      (skipped-line false (at_line false m) skipped).scans by_feed bytes (Unread OutOfRange) (headed-answers m headed)
+      (skipped-line false (at_line false m) skipped).scans by_feed bytes (Err OutOfRange) (headed-answers m headed)
   headed-answers m (Headed.skip_return {bytes = bytes} skipped headed) =
-      (skipped-line false (at_line false m) skipped).scans by_return bytes (Unread OutOfRange) (headed-answers m headed)
+      (skipped-line false (at_line false m) skipped).scans by_return bytes (Err OutOfRange) (headed-answers m headed)
   headed-answers m (Headed.last line) =
       let p = header-line false m line in
-      p.passes.stops (Unread OutOfRange) (beyond-closed p.after (beyond-header p))
+      p.passes.stops (Err OutOfRange) (beyond-closed p.after (beyond-header p))
   headed-answers m (Headed.feed bytes line) =
       let p = header-line false m line in
-      p.passes.scans by_feed bytes (Unread OutOfRange) λ place. rw (beyond-header p)
+      p.passes.scans by_feed bytes (Err OutOfRange) λ place. rw (beyond-header p)
   headed-answers m (Headed.return_feed bytes line) =
       let p = header-line false m line in
-      p.passes.scans by_return bytes (Unread OutOfRange) λ place. rw (beyond-header p)
+      p.passes.scans by_return bytes (Err OutOfRange) λ place. rw (beyond-header p)
 
-pub headed-refused : {rows columns : ℕ} (text : List ℕ) → Headed rows columns text → counts_fit rows columns ≡ false → scan begin 0 text ≡ Unread OutOfRange
+pub headed-refused : {rows columns : ℕ} (text : List ℕ) → Headed rows columns text → counts_fit rows columns ≡ false → scan begin 0 text ≡ Err OutOfRange
 unfolding begin
 headed-refused {rows} {columns} text headed unfit = headed-answers rows columns unfit begin headed 0
 

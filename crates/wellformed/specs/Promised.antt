@@ -1,12 +1,13 @@
 -- The words in which the reader's promises are put.
-use Rattle.std.specs.Prelude.{Bool, true, false, cond, not, ◌&&◌, ◌≡◌, List, [], ◌∷◌, ◌++◌, map, ℕ, suc, ◌*◌, ◌-◌, ◌<◌, ◌≤◌, leb, length, take, ℤ, neg_ℤ}
+use Rattle.std.specs.Prelude.{Bool, true, false, cond, not, ◌&&◌, ◌≡◌, List, [], ◌∷◌, ◌++◌, map, ℕ, suc, ◌*◌, ◌-◌, ◌<◌, ◌≤◌, leb, length, take, ℤ, neg_ℤ, Result, Err}
 use Rattle.rules.specs.declared.Refusal.TheVariants.{OutOfRange}
 use Rattle.matrix.specs.Bytes.{line_feed, carriage_return}
 use Rattle.wellformed.specs.Grammar.{Row, HeaderLine, SkippedLine, Says, WellFormed}
 use Rattle.rows.specs.Row.{zeros}
 use Rattle.matrix.specs.Reader.{counts_fit, Read, read}
-use Rattle.rules.specs.declared.Reading.{Reading}
-use Rattle.rules.specs.declared.Reading.TheVariants.{System, Unread}
+use Rattle.rules.specs.declared.Refusal.{Refusal}
+use Rattle.rules.specs.declared.System.{System}
+use Rattle.rules.specs.Reading.{system_of}
 
 -- ---- the system that a matrix is
 
@@ -26,17 +27,17 @@ packed inequality (r ∷ matrix) = cond (cond inequality r.inequality (not r.ine
 
 -- ---- what the reader answers to a well-formed text
 
-unfoldable pub answered : ℕ → ℕ → List Row → Reading
+unfoldable pub answered : ℕ → ℕ → List Row → Result System Refusal
 unfolding rows_of_kind
 answered rows columns matrix =
     cond (counts_fit rows columns && (leb (rows_of_kind false matrix) 32 && leb (rows_of_kind true matrix) 64))
-    (System (columns - 2) (rows_of_kind false matrix) (rows_of_kind true matrix))
-    (Unread OutOfRange)
+    (system_of (columns - 2) (rows_of_kind false matrix) (rows_of_kind true matrix))
+    (Err OutOfRange)
 
 -- ---- "rows at the front, zeros behind": what the two tables of a system hold
 
 pub record TablesHold (reads : Read) (matrix : List Row) (n m k : ℕ) : Type 0 where
-  pub reading : reads.reading ≡ System n m k
+  pub reading : reads.reading ≡ system_of n m k
   pub equations : reads.equations ≡ packed false matrix ++ zeros (1056 - m * suc n)
   pub inequalities : reads.inequalities ≡ packed true matrix ++ zeros (2112 - k * suc n)
 
@@ -72,7 +73,7 @@ pub data Headed (rows columns : ℕ) : List ℕ → Type 0 where
 -- more than 32 equations or 64 inequalities give it after the text."
 pub data BeyondLimits (text : List ℕ) : Type 0 where
   by_header : {rows columns : ℕ} → Headed rows columns text → counts_fit rows columns ≡ false → BeyondLimits text
-  by_matrix : {rows columns : ℕ} {matrix : List Row} → Says text rows columns matrix → answered rows columns matrix ≡ Unread OutOfRange → BeyondLimits text
+  by_matrix : {rows columns : ℕ} {matrix : List Row} → Says text rows columns matrix → answered rows columns matrix ≡ Err OutOfRange → BeyondLimits text
 
 -- ---- what the reader answers, by the document's number and values of it (`of_reading` of rules/specs/Numbers.antt)
 module _ (text : List ℕ) (equations inequalities : List ℤ) where
@@ -87,7 +88,7 @@ module _ (text : List ℕ) (equations inequalities : List ℤ) where
   pub data Due : List ℕ → Type 0 where
     -- the text says a matrix within the limits
     system : {rows columns n m k : ℕ} {matrix : List Row}
-        → Taken → Says text rows columns matrix → answered rows columns matrix ≡ System n m k → Due (0 ∷ n ∷ m ∷ k ∷ [])
+        → Taken → Says text rows columns matrix → answered rows columns matrix ≡ system_of n m k → Due (0 ∷ n ∷ m ∷ k ∷ [])
     one : Taken → BeyondLimits text → Due (4 ∷ 1 ∷ [])
     -- "other lengths give refusal 2"
     two : (RightLengths → ⊥) → Due (4 ∷ 2 ∷ [])

@@ -6,7 +6,6 @@ pub mod Order
 pub mod Linear
 pub mod Divides
 pub mod GcdLaws
-pub mod LimitLaws
 pub mod Division
 pub mod QuotientLaws
 pub mod Bounds

@@ -40,10 +40,7 @@ pub fn magnitude(z: i64) -> u64
     requires { nat_abs z ≤ 9223372036854775807 }
     ensures { result ≡ nat_abs z }
 {
-    if z < 0 {
-        return (0 - z) as u64;
-    }
-    z as u64
+    z.unsigned_abs()
 }
 
 // A number that is not negative, as a signed one.
@@ -58,10 +55,7 @@ pub fn signed(x: u64) -> i64
 pub fn within(z: i64) -> bool
     ensures { result ≡ within_limit z }
 {
-    if z < -268435455 {
-        return false;
-    }
-    z <= 268435455
+    -268435455 <= z && z <= 268435455
 }
 
 // The quotient of step (c). Most of a run's are by 1 or -1; numbers within the limit have 32 bits, which are divided faster than 64.
@@ -103,5 +97,5 @@ pub fn ceiling(z: i64, g: i64) -> i64
 pub fn bit_length(x: u64) -> u32
     ensures { result ≡ bit_length x }
 {
-    64 - u64::leading_zeros(x)
+    64 - x.leading_zeros()
 }

@@ -1,88 +1,62 @@
 -- `checker::check` meets its contract: the checks in their order, then the judgement.
 use mathlib.Core.Path.{◌≡◌, sym, ap, ◌∙◌}
-use mathlib.Core.Bool.{true}
 use Prim.Native.Nat.{ℕ, suc, ◌+◌, ◌*◌, ◌≤◌}
 use native.Mathlib.Nat.{mul-le-mul}
 use native.Mathlib.Numerals.{add-one}
 use native.Mathlib.Omega.{arith}
-use lib.ListN.{length}
-use Rattle.rules.specs.Outcomes.{in_range}
-use Rattle.limits.specs.Checked.{table_checked}
-use Rattle.checker.proofs.Cases.{InRange, in-range, out_of_range, equations-wrong, table-wrong, entry-bad, entries-good, good-within}
-use Rattle.checker.proofs.check.Goals.{After-check_table-entries, Else-equations-m, Else-not-in_range, Else-table-m}
+use Rattle.std.proofs.Common.{rules}
+use Rattle.rules.specs.declared.Table.TheVariants.{Equations}
+use Rattle.checker.proofs.Cases.{in-range, out_of_range, equations-wrong, table-wrong, entry-bad, entries-good, good-within}
+use Rattle.checker.proofs.check.Goals.{then-equations-m-via-then-equations-m, then-equations-m-via-else-equations-m+then-table-m}
 use Rattle.checker.proofs.check.Goals as goal
 
--- ---- what each test tells, past it
-range : (c : Else-not-in_range) → let a = c.args in in_range a.n a.m 0 ≡ true
-range c = sym c.in_range.ensures ∙ c.if-not-in_range.false
+pub returns-then-not-in_range : goal.returns-then-not-in_range
+returns-then-not-in_range c = let a = c.args in out_of_range a.n a.m a.equations.now a.table.now (sym c.in_range.ensures ∙ c.if-not-in_range.true)
 
-ranges : (c : Else-not-in_range) → let a = c.args in InRange a.n a.m
-ranges c = let a = c.args in in-range a.n a.m (range c)
+pub overflow_add-w : goal.overflow_add-w
+overflow_add-w c = let h = in-range c.args.n c.args.m (sym c.in_range.ensures ∙ c.if-not-in_range.false) in omega (arith, h.few)
+
+pub overflow_mul-m : goal.overflow_mul-m
+overflow_mul-m c =
+    let h = in-range c.args.n c.args.m (sym c.in_range.ensures ∙ c.if-not-in_range.false) in
+    let w : c.args.n + 1 ≤ 33 = omega (arith, h.few) in
+    omega (arith, mul-le-mul h.rows w)
 
 -- the code has n + 1
 numbers : (m n : ℕ) → m * (n + 1) ≡ m * suc n
 numbers m n = ap (λ (w : ℕ). m * w) (add-one n)
 
-long : (c : Else-equations-m) → let a = c.args in length a.equations.now ≡ a.m * suc a.n
-long c = let a = c.args in c.if-equations-m.false ∙ numbers a.m a.n
-
-pub returns-then-not-in_range : goal.returns-then-not-in_range
-returns-then-not-in_range c =
-    let a = c.args in
-    out_of_range a.n a.m a.equations.now a.table.now (sym c.in_range.ensures ∙ c.if-not-in_range.true)
-
-pub overflow_add-w : goal.overflow_add-w
-overflow_add-w c = let h = ranges c in omega arith
-
-pub overflow_mul-m : goal.overflow_mul-m
-overflow_mul-m c =
-    let a = c.args in
-    let h = ranges c in
-    let w : a.n + 1 ≤ 33 = omega arith in
-    omega (arith, mul-le-mul h.rows w)
-
 pub returns-then-equations-m : goal.returns-then-equations-m
 returns-then-equations-m c =
     let a = c.args in
-    equations-wrong a.n a.m a.equations.now a.table.now (range c.before) (λ e. c.if-equations-m.true (e ∙ sym (numbers a.m a.n)))
+    let range = sym c.in_range.ensures ∙ c.if-not-in_range.false in
+    elim c.then-equations-m.branch [
+      | then-equations-m-via-then-equations-m w ↦
+          equations-wrong a.n a.m a.equations.now a.table.now range (λ e. w.if-equations-m.true (e ∙ sym (numbers a.m a.n)))
+      | then-equations-m-via-else-equations-m+then-table-m w ↦
+          table-wrong a.n a.m a.equations.now a.table.now range (w.if-equations-m.false ∙ numbers a.m a.n) (λ e. w.if-table-m.true (e ∙ sym (add-one a.m)))
+    ]
 
-pub returns-then-table-m : goal.returns-then-table-m
-returns-then-table-m c =
-    let o = c.before in
-    let a = o.args in
-    table-wrong a.n a.m a.equations.now a.table.now (range o.before) (long o) (λ e. c.if-table-m.true (e ∙ sym (add-one a.m)))
+pub check_table-requires : goal.check_table-requires
+check_table-requires c = let h = in-range c.args.n c.args.m (sym c.in_range.ensures ∙ c.if-not-in_range.false) in omega (arith, h.few)
 
--- the multipliers, then D
-last : (c : Else-table-m) → let a = c.args in length a.table.now ≡ suc a.m
-last c = c.if-table-m.false ∙ add-one c.args.m
+pub returns-in_err-check_table : goal.returns-in_err-check_table
+returns-in_err-check_table c =
+    let a = c.args in
+    let range = sym c.in_range.ensures ∙ c.if-not-in_range.false in
+    let bad = rw (add-one a.n) at c.in_err-check_table.ensures in
+    let h = entry-bad a.n a.m a.equations.now a.table.now range (c.if-equations-m.false ∙ numbers a.m a.n) (c.if-table-m.false ∙ add-one a.m) _ bad in
+    search (rules, h)
 
-pub check_table-entries-requires : goal.check_table-entries-requires
-check_table-entries-requires c = let h = ranges c.before.before in omega arith
+pub judge-requires-clause-le_n : goal.judge-requires-clause-le_n
+judge-requires-clause-le_n c =
+    let a = c.args in
+    let h = in-range a.n a.m (sym c.in_range.ensures ∙ c.if-not-in_range.false) in
+    (h.some, h.few, h.rows, c.if-equations-m.false ∙ numbers a.m a.n, c.if-table-m.false ∙ add-one a.m)
 
--- what the check of the equations answers
-told : (c : After-check_table-entries) → let a = c.args in
-    c.check_table-entries.result ≡ table_checked (suc a.n) 0 a.equations.now
-told c = rw (add-one c.args.n) at c.check_table-entries.ensures
-
-pub judge-requires : goal.judge-requires
-judge-requires c =
-    let t = c.before in
-    let l = t.before in
-    let a = l.args in
-    let h = ranges l.before.before in record { le_n = (h.some, h.few, h.rows, long l.before, last l); equations_value = good-within (suc a.n) 0 a.equations.now (rw c.in-Good.is at (told t)) }
-
-pub returns-in-Bad : goal.returns-in-Bad
-returns-in-Bad c =
-    let t = c.before in
-    let l = t.before in
-    let a = l.args in
-    let bad = rw c.in-Bad.is at (told t) in
-    entry-bad a.n a.m a.equations.now a.table.now (range l.before.before) (long l.before) (last l) _ bad
-
-pub returns-in-Good : goal.returns-in-Good
-returns-in-Good c =
-    let t = c.before.before in
-    let l = t.before in
-    let a = l.args in
-    let within = good-within (suc a.n) 0 a.equations.now (rw c.in-Good.is at (told t)) in
-    c.judge.ensures ∙ entries-good a.n a.m a.equations.now a.table.now (range l.before.before) (long l.before) (last l) within
+pub returns : goal.returns
+returns c =
+    let a = c.args in
+    let range = sym c.in_range.ensures ∙ c.if-not-in_range.false in
+    let within = good-within (suc a.n) Equations a.equations.now (rw (add-one a.n) at c.in_ok-check_table.ensures) in
+    c.judge.ensures ∙ entries-good a.n a.m a.equations.now a.table.now range (c.if-equations-m.false ∙ numbers a.m a.n) (c.if-table-m.false ∙ add-one a.m) within

@@ -1,11 +1,6 @@
--- `copying::fill` meets its contract: one number into each place.
-use Prim.Native.Nat.{◌-◌, ◌≤◌}
-use lib.ListN.{length}
-use Rattle.copying.proofs.Filled.{Filled}
+-- `copying::fill` meets its contract: one value into each place.
+use Rattle.std.proofs.Common.{◌≡◌, take, replicate}
 use Rattle.copying.proofs.fill.Given as goal
 
-abbrev pub invariant-loop-i : goal.invariant-loop-i
-invariant-loop-i l = (l.i ≤ length l.initial.table) × Filled l.z l.initial.table l.table l.i
-
-abbrev pub decreases-loop-i : goal.decreases-loop-i
-decreases-loop-i l = length l.initial.table - l.i
+abbrev pub invariant-loop-cell : goal.invariant-loop-cell
+invariant-loop-cell g l = take l.cell-index l.cell-items ≡ replicate l.cell-index l.x

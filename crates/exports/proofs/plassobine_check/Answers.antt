@@ -1,5 +1,6 @@
 -- `plassobine_check` meets its contract: the checker's answer in numbers, where there is room for them.
-use Rattle.rules.specs.declared.Verdict.{Verdict}
+use Rattle.std.specs.Prelude.{Bool, Result}
+use Rattle.rules.specs.declared.Refusal.{Refusal}
 use Rattle.rules.specs.Numbers.{of_verdict}
 use Rattle.numbers.specs.Numbers.{five}
 use Rattle.exports.specs.Numbered.{checked}
@@ -15,4 +16,4 @@ unfolding checked
 returns c =
     let v = c in
     let a = v.args in
-    with-room (λ (x : Verdict). five (of_verdict x)) (λ (x : Verdict). tt) _ _ _ a.outcome.now tt v.if-outcome-ne5.false v.check-verdict.ensures c.put_verdict.ensures
+    with-room (λ (x : Result Bool Refusal). five (of_verdict x)) (λ (x : Result Bool Refusal). tt) _ _ _ a.outcome.now tt v.if-outcome-ne5.false v.check-verdict.ensures c.put_verdict.ensures

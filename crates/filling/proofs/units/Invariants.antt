@@ -1,5 +1,5 @@
 -- `filling::units` meets its contract: zeros first, then one store for each row.
-use Prim.Native.Nat.{◌*◌, ◌-◌, ◌≤◌}
+use Prim.Native.Nat.{◌*◌, ◌-◌}
 use lib.ListN.{replicate}
 use lib.IntN.{pos}
 use Rattle.rows.proofs.Sweep.{Swept}
@@ -7,7 +7,4 @@ use Rattle.filling.proofs.UnitRows.{units_from}
 use Rattle.filling.proofs.units.Given as goal
 
 abbrev pub invariant-loop-r : goal.invariant-loop-r
-invariant-loop-r l = (l.r ≤ l.count) × Swept (replicate (l.count * l.w) (pos 0)) l.table (units_from l.w 0 l.count) (l.r * l.w) (units_from l.w l.r (l.count - l.r))
-
-abbrev pub decreases-loop-r : goal.decreases-loop-r
-decreases-loop-r l = l.count - l.r
+invariant-loop-r l = Swept (replicate (l.count * l.w) (pos 0)) l.table (units_from l.w 0 l.count) (l.r * l.w) (units_from l.w l.r (l.count - l.r))

@@ -1,34 +1,21 @@
 -- `limits::check_table` meets its contract: the first entry beyond the limit, in rows and columns from 1.
-use mathlib.Core.Path.{ap, ap₂, ◌∙◌}
-use Prim.Native.Nat.{ℕ, ◌+◌, ◌/◌, ◌%◌}
-use native.Mathlib.Nat.{div-le_self, mod-le}
+use mathlib.Core.Path.{ap₂, sym, ◌∙◌}
+use Prim.Native.Nat.{ℕ, ◌/◌, ◌%◌}
 use native.Mathlib.Numerals.{add-one}
-use native.Mathlib.Omega.{arith}
-use Rattle.rows.specs.Row.{first_beyond}
+use Rattle.std.specs.Prelude.{Result, Err}
+use Rattle.rules.specs.declared.Refusal.{Refusal}
 use Rattle.rules.specs.declared.Refusal.TheVariants.{BadEntry}
 use Rattle.rules.specs.Outcomes.{bad_entry}
-use Rattle.limits.specs.declared.Entries.TheVariants.{Bad}
-use Rattle.limits.proofs.Verdicts.{one-bad, none-bad, table-bad, table-good, beyond-le}
+use Rattle.limits.proofs.Verdicts.{found-one, found-none, table-bad, table-good}
 use Rattle.limits.proofs.check_table.Goals as goal
 
-pub overflow_add-result : goal.overflow_add-result
-overflow_add-result c = omega (arith, div-le_self c.first_beyond-i.result c.args.w)
-
-pub overflow_add-result-then-i-table : goal.overflow_add-result-then-i-table
-overflow_add-result-then-i-table c = omega (arith, mod-le c.first_beyond-i.result c.args.w)
-
-pub returns-then-i-table : goal.returns-then-i-table
+pub returns-in-Some : goal.returns-in-Some
 unfolding bad_entry
-returns-then-i-table c =
-    let table = c.args.table.now in
+returns-in-Some c =
     let a = c.args in
-    let e = c.first_beyond-i.ensures in
-    let i : ℕ = first_beyond table in
-    ap₂ (λ (x y : ℕ). Bad (BadEntry a.number x y)) (ap (λ (j : ℕ). j / a.w + 1) e ∙ add-one (i / a.w)) (ap (λ (j : ℕ). j % a.w + 1) e ∙ add-one (i % a.w))
-    ∙ table-bad a.w a.number table (one-bad table (omega (arith, e)))
+    let told = found-one a.table.now c.in-Some.i (sym c.first_beyond.ensures ∙ c.in-Some.is) in
+    let refused : ℕ → ℕ → Result (Unit {0}) Refusal = λ row column. Err (BadEntry a.which row column) in
+    ap₂ refused (add-one (c.in-Some.i / a.w)) (add-one (c.in-Some.i % a.w)) ∙ rw told.0 at (table-bad a.w a.which a.table.now told.1)
 
-pub returns : goal.returns
-returns c =
-    let table = c.args.table.now in
-    let a = c.args in
-    table-good a.w a.number table (none-bad table (omega (arith, c.first_beyond-i.ensures, beyond-le table)))
+pub returns-in-None : goal.returns-in-None
+returns-in-None c = let a = c.args in table-good a.w a.which a.table.now (found-none a.table.now (sym c.first_beyond.ensures ∙ c.in-None.is))

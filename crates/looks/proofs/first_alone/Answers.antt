@@ -1,70 +1,51 @@
--- `looks::first_alone` meets its contract: none of the rows passed is in conflict by itself.
+-- `looks::first_alone` meets its contract: the chunks are the rows, and none of the rows passed is the one looked for.
 use mathlib.Core.Path.{◌≡◌, sym, ap, ◌∙◌}
-use Prim.Native.Nat.{suc, ◌+◌, ◌*◌, ◌≤◌}
+use Prim.Native.Nat.{suc, ◌/◌}
 use native.Mathlib.Omega.{arith}
+use borrow.Author.Rules.{rules}
 use lib.ListN.{length}
 use Rattle.rows.specs.Table.{row_at}
-use Rattle.rows.proofs.TableLaws.{length-row_at}
 use Rattle.rules.specs.Inequalities.{alone}
-use Rattle.rows.proofs.TableLaws.{row_fits, row-lent}
-use Rattle.looks.proofs.FirstRows.{passed_start, passed_here, passed-next, passed_none}
-use Rattle.looks.proofs.first_alone.Goals.{After-is_alone, In-loop-r}
+use Rattle.looks.specs.Found.{row_found}
+use Rattle.looks.proofs.FirstRows.{passed_here, passed-next, passed_none, found-row}
+use Rattle.looks.proofs.Chunks.{Turn, turn, rows_over}
+use Rattle.looks.proofs.first_alone.Goals.{After-is_alone, In-Some}
 use Rattle.looks.proofs.first_alone.Goals as goal
 
--- the row of a turn lies within the table
-within-table : (c : In-loop-r) → let l = c in let a = l.args in
-    l.loop-r.r * (a.n + 1) + (a.n + 1) ≤ length a.table.now
-within-table c =
-    let l = c in let s = l in row_fits s.args.n s.args.count l.loop-r.r s.args.table.now c.loop-r-test.true s.requires.0
+-- the row of a turn, and what the call tells of it
+here : (c : In-Some) → Turn (suc c.args.n) c.args.table.now c.loop-i.i-iterator c.next.new.self c.in-Some.i c.in-Some.row.now
+here c =
+    let l = c.loop-i in
+    turn (suc c.args.n) c.args.table.now l.i-iterator c.next.new.self c.next.result (omega arith)
+    l.invariant.ahead l.invariant.size c.next.ensures.steps c.in-Some.i c.in-Some.row c.in-Some.is
 
-pub loop-r-init : goal.loop-r-init
-loop-r-init c = (omega arith, passed_start _ _ _ _)
-
-pub overflow_mul-a : goal.overflow_mul-a
-overflow_mul-a c = let h = within-table c in omega arith
-
-pub overflow_add-e : goal.overflow_add-e
-overflow_add-e c = let h = within-table c in omega arith
-
-pub offset_bounds-table-a : goal.offset_bounds-table-a
-offset_bounds-table-a c = let h = within-table c in omega arith
-
-pub slice_bounds-is_alone-end : goal.slice_bounds-is_alone-end
-slice_bounds-is_alone-end c = let h = within-table c in omega arith
-
-pub is_alone-requires : goal.is_alone-requires
-is_alone-requires c =
-    let l = c in
-    let s = l in
-    let n = s.args.n in
-    let r = l.loop-r.r in
-    let t = s.args.table.now in
-    rw (row-lent n r t) (length-row_at (suc n) s.args.count r t c.loop-r-test.true s.requires.0)
-
--- what the call tells of the row
-told : (c : After-is_alone) → let l = c in let a = l.args in
-    alone a.n (row_at (suc a.n) l.loop-r.r a.table.now) ≡ c.is_alone.result
-told c =
-    let l = c in
-    let a = l.args in
-    ap (alone a.n) (sym (row-lent a.n l.loop-r.r a.table.now)) ∙ sym c.is_alone.ensures
+told : (c : After-is_alone) → alone c.args.n (row_at (suc c.args.n) c.in-Some.i c.args.table.now) ≡ c.is_alone.result
+told c = ap (alone c.args.n) (sym (here (goal.at.After-is_alone c).In-Some).is) ∙ sym c.is_alone.ensures
 
 pub returns-then-is_alone : goal.returns-then-is_alone
 returns-then-is_alone c =
-    let l = c in
-    let a = l.args in
-    passed_here (alone a.n) (suc a.n) a.count a.table.now l.loop-r.r (omega arith) (told c.before ∙ c.if-is_alone.true) l.loop-r.invariant.1
+    let p = goal.at.returns-then-is_alone c in
+    let h = here p.In-Some in
+    let w = suc c.args.n in
+    let t = c.args.table.now in
+    let found = told p.After-is_alone ∙ c.if-is_alone.true in
+    found-row c.in-Some.i (passed_here (alone c.args.n) w (length t / w) t c.in-Some.i h.there found (rw h.number c.loop-i.invariant.passed))
 
-pub loop-r-preserved : goal.loop-r-preserved
-loop-r-preserved c =
-    let l = c in
-    let a = l.args in (
-      omega arith,
-      passed-next (alone a.n) (suc a.n) a.count a.table.now l.loop-r.r (omega arith) (told c.before ∙ c.if-is_alone.false) l.loop-r.invariant.1,
-    )
+pub loop-i-preserved : goal.loop-i-preserved
+loop-i-preserved c =
+    let p = goal.at.loop-i-preserved c in
+    let h = here p.In-Some in
+    let w = suc c.args.n in
+    let t = c.args.table.now in
+    let other = told p.After-is_alone ∙ c.if-is_alone.false in
+    let next = passed-next (alone c.args.n) w (length t / w) t c.in-Some.i h.there other (rw h.number c.loop-i.invariant.passed) in
+    record { can = search rules; ends = search rules; ahead = h.rest; size = h.width; passed = rw h.counted next }
 
 pub returns : goal.returns
 returns c =
-    let l = c in
-    let a = l.args in
-    passed_none (alone a.n) (suc a.n) a.count a.table.now l.loop-r.r (omega arith) l.loop-r.invariant.1
+    let l = c.loop-i in
+    let w = suc c.args.n in
+    let t = c.args.table.now in
+    let over = rows_over w t l.i-iterator c.next.new.self c.next.result (omega arith)
+    l.invariant.ahead l.invariant.size c.next.ensures.steps c.in-None.is in
+    ap row_found (passed_none (alone c.args.n) w (length t / w) t _ over l.invariant.passed)

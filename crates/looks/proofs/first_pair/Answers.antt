@@ -1,102 +1,79 @@
--- `looks::first_pair` meets its contract: none of the rows passed is the first of a pair.
+-- `looks::first_pair` meets its contract: the chunks are the rows, and none of the rows passed is the first of a pair.
 use mathlib.Core.Path.{◌≡◌, refl, sym, ap, ◌∙◌}
-use Prim.Native.Nat.{ℕ, suc, ◌+◌, ◌*◌, ◌≤◌}
+use Prim.Native.Nat.{suc, ◌+◌, ◌/◌, ◌≤◌}
+use native.Mathlib.Nat.{div-le_self}
 use native.Mathlib.Omega.{arith}
+use borrow.Author.Rules.{rules}
 use lib.ListN.{length}
-use Rattle.rows.proofs.TableLaws.{length-row_at}
-use Rattle.tables.proofs.Rowed.{rows_start}
 use Rattle.tables.proofs.Multiples.{within-row}
-use Rattle.rules.specs.Inequalities.{first_pair}
-use Rattle.rows.proofs.TableLaws.{row_fits, row-lent}
-use Rattle.looks.proofs.FirstRows.{rest-long, rest-within, rest-rows, after, after-le, pair-none, pair-here, pair-next}
-use Rattle.looks.proofs.first_pair.Goals.{After-first_against-after, In-loop-i}
+use Rattle.looks.specs.Found.{row_found, pair_found}
+use Rattle.looks.proofs.FirstRows.{rest-within, rest-rows, after, after-le, pair-none, pair-here, pair-next, found-some, found-none, found-pair}
+use Rattle.looks.proofs.Chunks.{Turn, turn, rows_over}
+use Rattle.looks.proofs.first_pair.Goals.{After-first_against, In-Some}
 use Rattle.looks.proofs.first_pair.Goals as goal
 
--- the row of a turn lies within the table
-within-table : (c : In-loop-i) → let l = c in let a = l.args in
-    l.loop-i.i * (a.n + 1) + (a.n + 1) ≤ length a.table.now
-within-table c =
-    let l = c in let s = l in row_fits s.args.n s.args.count l.loop-i.i s.args.table.now c.loop-i-test.true s.requires.0
+-- the row of a turn, and what the call finds behind it
+here : (c : In-Some) → Turn (suc c.args.n) c.args.table.now c.loop-i.i-iterator c.next.new.self c.in-Some.i c.in-Some.row.now
+here c =
+    let l = c.loop-i in
+    turn (suc c.args.n) c.args.table.now l.i-iterator c.next.new.self c.next.result (omega arith)
+    l.invariant.ahead l.invariant.size c.next.ensures.steps c.in-Some.i c.in-Some.row c.in-Some.is
 
-pub loop-i-init : goal.loop-i-init
-loop-i-init c = (omega arith, ap (first_pair c.args.n 1) (rows_start (suc c.args.n) c.args.count c.args.table.now))
-
-pub overflow_mul-a : goal.overflow_mul-a
-overflow_mul-a c = let h = within-table c in omega arith
-
-pub overflow_add-e : goal.overflow_add-e
-overflow_add-e c = let h = within-table c in omega arith
-
-pub offset_bounds-table-a : goal.offset_bounds-table-a
-offset_bounds-table-a c = let h = within-table c in omega arith
-
-pub slice_bounds-first_against-end : goal.slice_bounds-first_against-end
-slice_bounds-first_against-end c = let h = within-table c in omega arith
-
-pub offset_bounds-table-e : goal.offset_bounds-table-e
-offset_bounds-table-e c = let h = within-table c.before in omega arith
-
-pub slice_bounds-first_against-count-in-loop-i : goal.slice_bounds-first_against-count-in-loop-i
-slice_bounds-first_against-count-in-loop-i c = let h = within-table c.before in omega arith
-
-pub slice_bounds-first_against-start-in-loop-i : goal.slice_bounds-first_against-start-in-loop-i
-slice_bounds-first_against-start-in-loop-i c = let h = within-table c.before in omega arith
-
-pub slice_bounds-first_against-end-in-loop-i : goal.slice_bounds-first_against-end-in-loop-i
-slice_bounds-first_against-end-in-loop-i c = let h = within-table c.before in omega arith
-
-pub first_against-after-requires : goal.first_against-after-requires
-first_against-after-requires c =
-    let o = c in
-    let l = o in
-    let s = l in
-    let n = s.args.n in
-    let i = l.loop-i.i in
-    let count = s.args.count in
-    let t = s.args.table.now in
-    rw (row-lent n i t) record {
-      row_len = (
-        length-row_at (suc n) count i t o.loop-i-test.true s.requires.0,
-        rest-long n count i t o.loop-i-test.true s.requires.0,
-        s.requires.1,
-        omega arith,
-        within-row (suc n) i t s.requires.3,
-      );
-      table_value = rest-within n count i t s.requires.3;
-    }
-
--- what the call finds behind row i
-told : (c : After-first_against-after) → let l = c in let a = l.args in
-    c.first_against-after.result ≡ after a.n a.count l.loop-i.i a.table.now
+told : (c : After-first_against) → c.first_against.result ≡ row_found (after c.args.n (length c.args.table.now / suc c.args.n) c.in-Some.i c.args.table.now)
 told c =
-    let l = c in
-    let a = l.args in
-    rw (row-lent a.n l.loop-i.i a.table.now, rest-rows a.n a.count l.loop-i.i a.table.now) at c.first_against-after.ensures
+    let h = here (goal.at.After-first_against c).In-Some in
+    rw (h.is, rest-rows c.args.n c.in-Some.i c.args.table.now h.there) at c.first_against.ensures
 
-pub overflow_add-result-then-after-ne0-2 : goal.overflow_add-result-then-after-ne0-2
-overflow_add-result-then-after-ne0-2 c =
-    let l = c in
-    let a = l.args in
-    let h = after-le a.n a.count l.loop-i.i a.table.now in
-    omega (arith, told c.before)
+pub first_against-requires : goal.first_against-requires
+first_against-requires c =
+    let h = here (goal.at.first_against-requires c).In-Some in
+    let t = c.args.table.now in
+    (h.long, c.requires.0, rw h.is (within-row (suc c.args.n) c.in-Some.i t c.requires.1), rest-within c.args.n c.in-Some.i t c.requires.1)
 
-pub returns-then-after-ne0 : goal.returns-then-after-ne0
-returns-then-after-ne0 c =
-    let l = c in
-    let a = l.args in
-    let found = told c.before in
-    let here = pair-here a.n a.count l.loop-i.i a.table.now (omega arith) (λ e. c.if-after-ne0.true (found ∙ e)) in
-    rw (← l.loop-i.invariant.1, here) (refl, ap (λ (k : ℕ). l.loop-i.i + 1 + k) found)
+pub overflow_add-result-in-Some-first_against-2 : goal.overflow_add-result-in-Some-first_against-2
+overflow_add-result-in-Some-first_against-2 c =
+    let h = here (goal.at.overflow_add-result-in-Some-first_against-2 c).In-Some in
+    let n = c.args.n in
+    let t = c.args.table.now in
+    let i = c.in-Some.i in
+    let count = length t / suc n in
+    let f = found-some (after n count i t) (sym (told (goal.at.overflow_add-result-in-Some-first_against-2 c).After-first_against) ∙ c.in-Some-first_against.is) in
+    let few : count ≤ length t = div-le_self (length t) (suc n) in
+    let last = after-le n count i t in
+    omega (arith, f.0, last, few, h.there)
+
+pub returns-in-Some-first_against : goal.returns-in-Some-first_against
+returns-in-Some-first_against c =
+    let h = here (goal.at.returns-in-Some-first_against c).In-Some in
+    let n = c.args.n in
+    let t = c.args.table.now in
+    let i = c.in-Some.i in
+    let count = length t / suc n in
+    let f = found-some (after n count i t) (sym (told (goal.at.returns-in-Some-first_against c).After-first_against) ∙ c.in-Some-first_against.is) in
+    let whole = sym (pair-here n count i t h.there f.1) ∙ rw h.number c.loop-i.invariant.passed in
+    sym (sym (ap pair_found whole) ∙ found-pair i (i + 1 + after n count i t) ∙ rw f.0 refl)
 
 pub loop-i-preserved : goal.loop-i-preserved
 loop-i-preserved c =
-    let l = c in
-    let a = l.args in
-    let next = pair-next a.n a.count l.loop-i.i a.table.now (omega arith) (sym (told c.before) ∙ c.if-after-ne0.false) in
-    (omega arith, sym next ∙ l.loop-i.invariant.1)
+    let h = here (goal.at.loop-i-preserved c).In-Some in
+    let n = c.args.n in
+    let t = c.args.table.now in
+    let i = c.in-Some.i in
+    let count = length t / suc n in
+    let none = found-none (after n count i t) (sym (told (goal.at.loop-i-preserved c).After-first_against) ∙ c.in_default.is) in
+    record {
+      can = search rules;
+      ends = search rules;
+      ahead = h.rest;
+      size = h.width;
+      passed = rw h.counted (sym (pair-next n count i t h.there none) ∙ rw h.number c.loop-i.invariant.passed);
+    }
 
 pub returns : goal.returns
 returns c =
-    let l = c in
-    let a = l.args in
-    rw (← l.loop-i.invariant.1, pair-none a.n a.count l.loop-i.i a.table.now (omega arith)) (refl, refl)
+    let l = c.loop-i in
+    let n = c.args.n in
+    let t = c.args.table.now in
+    let over = rows_over (suc n) t l.i-iterator c.next.new.self c.next.result (omega arith)
+    l.invariant.ahead l.invariant.size c.next.ensures.steps c.in-None.is in
+    ap pair_found (sym (pair-none n (length t / suc n) _ t over) ∙ l.invariant.passed)

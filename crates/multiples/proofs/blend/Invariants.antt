@@ -2,8 +2,7 @@
 -- so far and the one for the columns ahead make the answer for the row.
 use mathlib.Core.Path.{◌≡◌}
 use mathlib.Core.Bool.{◌&&◌}
-use Prim.Native.Nat.{◌-◌, ◌≤◌}
-use lib.ListN.{length, drop}
+use lib.ListN.{drop}
 use Rattle.rows.specs.Row.{less, scaled, all_within}
 use Rattle.rows.proofs.Sweep.{Swept}
 use Rattle.multiples.proofs.blend.Given as goal
@@ -12,7 +11,4 @@ abbrev pub invariant-loop-i : goal.invariant-loop-i
 invariant-loop-i l =
     let ahead = less (scaled l.p (drop l.i l.initial.row)) l.q (drop l.i l.other) in
     let goal = less (scaled l.p l.initial.row) l.q l.other in
-    (l.i ≤ length l.initial.row) × Swept l.initial.row l.row goal l.i ahead × (l.fits && all_within ahead ≡ all_within goal)
-
-abbrev pub decreases-loop-i : goal.decreases-loop-i
-decreases-loop-i l = length l.initial.row - l.i
+    Swept l.initial.row l.row goal l.i ahead × (l.fits && all_within ahead ≡ all_within goal)

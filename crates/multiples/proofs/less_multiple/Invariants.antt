@@ -2,8 +2,7 @@
 -- the answer for the columns behind; it and the one for the columns ahead make the answer for the row.
 use mathlib.Core.Path.{◌≡◌}
 use mathlib.Core.Bool.{◌&&◌}
-use Prim.Native.Nat.{◌-◌, ◌≤◌}
-use lib.ListN.{length, drop}
+use lib.ListN.{drop}
 use lib.Signed.{non_neg}
 use Rattle.rows.specs.Row.{less, all_within}
 use Rattle.rows.proofs.Sweep.{Swept}
@@ -13,7 +12,4 @@ abbrev pub invariant-loop-i : goal.invariant-loop-i
 invariant-loop-i l =
     let ahead = less (drop l.i l.initial.row) l.q (drop l.i l.other) in
     let goal = less l.initial.row l.q l.other in
-    (l.i ≤ length l.initial.row) × Swept l.initial.row l.row goal l.i ahead × (non_neg l.signs && all_within ahead ≡ all_within goal)
-
-abbrev pub decreases-loop-i : goal.decreases-loop-i
-decreases-loop-i l = length l.initial.row - l.i
+    Swept l.initial.row l.row goal l.i ahead × (non_neg l.signs && all_within ahead ≡ all_within goal)

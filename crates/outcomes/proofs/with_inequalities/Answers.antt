@@ -1,87 +1,58 @@
 -- `outcomes::with_inequalities` meets its contract: from the state that the tables show the rows are worked; one is too large, and all
--- tables hold zeros, or none is, and the looks decide. `Places` has what holds after the work.
-use mathlib.Core.Path.{refl, sym, ap, ◌∙◌}
-use Prim.Native.Nat.{ℕ, suc, ◌*◌}
+-- tables hold zeros, or none is, and the looks decide.
+use mathlib.Core.Path.{◌≡◌, refl, ap, ◌∙◌}
+use Prim.Native.Nat.{ℕ, suc, ◌*◌, ◌/◌}
+use native.Mathlib.Nat.{mul-div_left}
 use native.Mathlib.Omega.{arith}
 use lib.ListN.{length, length-replicate}
 use lib.IntN.{pos}
+use Rattle.std.specs.Prelude.{Result}
+use Rattle.rows.specs.Table.{rows_of}
+use Rattle.used.specs.Shown.{state_in}
+use Rattle.inequalities.specs.Worked.{rows_shown, rows_worked}
 use Rattle.outcomes.proofs.Tabled.{all-blank}
-use Rattle.outcomes.proofs.Finished.{open-answer, large-answer}
-use Rattle.outcomes.proofs.with_inequalities.Answers.Places.{entry, tightened-long, used-long, worked, rows_inside}
-use Rattle.outcomes.proofs.with_inequalities.Goals.{After-work_rows-bad}
+use Rattle.outcomes.proofs.Finished.{tightened-within, open-answer, large-answer}
+use Rattle.outcomes.proofs.with_inequalities.Goals.{After-work_rows}
 use Rattle.outcomes.proofs.with_inequalities.Goals as goal
-mod Places
 
-pub work_rows-bad-requires : goal.work_rows-bad-requires
-work_rows-bad-requires c =
-    let s = c in
-    let p = s.requires in
-    let long = ap (λ (k : ℕ). k * suc s.args.n) (sym p.conflict_value.2) in record { tightened_len = (p.conflict_value.1 ∙ long, p.n_bound.3 ∙ long, p.n_bound.4, p.n_bound.5, p.n_bound.7); n_bound = (p.n_bound.0, p.n_bound.1, omega (arith, p.conflict_value.2, p.n_bound.2), p.conflict_value.3, p.conflict_value.4) }
+-- what holds after the work on the rows, of which there are as many as sets
+tightened-long : (w : After-work_rows) → let a = w.args in length w.work_rows.new.rows.tightened.now ≡ a.system.k * suc a.system.n
+tightened-long w = w.work_rows.ensures.same.tightened_long ∙ w.requires.lengths.1.tightened
 
-pub clear-requires : goal.clear-requires
-clear-requires c = tt
-
-pub shape_of-substitution-then-bad-ne0 : goal.shape_of-substitution-then-bad-ne0
-shape_of-substitution-then-bad-ne0 c = c.clear.auto.substitution
-
-pub shape_of-marks-then-bad-ne0 : goal.shape_of-marks-then-bad-ne0
-shape_of-marks-then-bad-ne0 c = c.clear.auto.marks
-
-pub shape_of-back-then-bad-ne0 : goal.shape_of-back-then-bad-ne0
-shape_of-back-then-bad-ne0 c = c.clear.auto.back
-
-pub shape_of-reasons-then-bad-ne0 : goal.shape_of-reasons-then-bad-ne0
-shape_of-reasons-then-bad-ne0 c = c.clear.auto.reasons
-
-pub shape_of-conflict-then-bad-ne0 : goal.shape_of-conflict-then-bad-ne0
-shape_of-conflict-then-bad-ne0 c = c.clear.auto.conflict
-
-pub shape_of-tightened-then-bad-ne0 : goal.shape_of-tightened-then-bad-ne0
-shape_of-tightened-then-bad-ne0 c = c.clear.auto.tightened ∙ c.work_rows-bad.auto.tightened
-
-pub shape_of-used-then-bad-ne0 : goal.shape_of-used-then-bad-ne0
-shape_of-used-then-bad-ne0 c = c.clear.auto.used ∙ c.work_rows-bad.auto.used
-
-pub returns-then-bad-ne0 : goal.returns-then-bad-ne0
-returns-then-bad-ne0 c =
-    let l = c in
-    let w = (goal.at.returns-then-bad-ne0 l).After-work_rows-bad in
-    let s = entry w in
-    let a = s.args in
-    let p = s.requires in
-    all-blank a.n a.m a.k refl l.clear.ensures.run l.clear.ensures.rest
-    (p.n_bound.4, p.n_bound.5, p.n_bound.6, p.n_bound.7, ap length p.conflict_value.0 ∙ length-replicate (suc a.m) (pos 0), tightened-long w, used-long w)
-    ∙ large-answer a.n a.m a.substitution.now a.marks.now a.back.now a.reasons.now a.steps
-    a.k a.inequalities.now w.work_rows-bad.new.tightened w.work_rows-bad.new.used
-    w.work_rows-bad.result l.if-bad-ne0.true (worked w w.work_rows-bad.result refl)
+worked : (w : After-work_rows) (r : Result (Unit {0}) ℕ) → w.work_rows.result ≡ r → let a = w.args in
+    rows_shown a.system.n a.system.k r w.work_rows.new.rows.tightened.now w.work_rows.new.rows.used.now
+    ≡ rows_worked a.system.n a.system.m (state_in a.system.n a.system.m a.state.now) (rows_of (suc a.system.n) a.system.k a.inequalities.now)
+worked w r e = rw (e, w.requires.lengths.1.used) at w.work_rows.ensures.worked
 
 pub look-requires : goal.look-requires
 look-requires c =
-    let w = (goal.at.look-requires c).After-work_rows-bad in
-    let p = (entry w).requires in
-    (p.n_bound.0, p.n_bound.2, tightened-long w, rows_inside w c.if-bad-ne0.false)
+    let w = (goal.at.look-requires c).After-work_rows in
+    let s = c.args.system in
+    let t = c.args.state.now in (
+      c.requires.size.0,
+      tightened-within s.n s.m t.substitution.now t.marks.now t.way_back.now t.reasons.now c.args.steps s.k c.args.inequalities.now
+          c.work_rows.new.rows.tightened.now c.work_rows.new.rows.used.now (worked w _ c.in-Ok.is) (tightened-long w),
+    )
 
-pub shape_of-substitution : goal.shape_of-substitution
-shape_of-substitution c = refl
+pub returns-in-Ok-clause-answer : goal.returns-in-Ok-clause-answer
+returns-in-Ok-clause-answer c =
+    let w = (goal.at.returns-in-Ok-clause-answer c).After-work_rows in
+    let s = c.args.system in
+    let t = c.args.state.now in
+    let l = c.requires.lengths.0 in
+    let count : length c.work_rows.new.rows.tightened.now / suc s.n ≡ s.k = rw (tightened-long w) (mul-div_left s.k (omega arith)) in
+    open-answer s.n s.m t.substitution.now t.marks.now t.way_back.now t.reasons.now c.args.steps s.k c.args.inequalities.now
+    c.work_rows.new.rows.tightened.now c.work_rows.new.rows.used.now (worked w _ c.in-Ok.is) (tightened-long w)
+    (rw count at c.look.ensures) c.requires.values.2 l.substitution l.way_back l.reasons
 
-pub shape_of-marks : goal.shape_of-marks
-shape_of-marks c = refl
-
-pub shape_of-reasons : goal.shape_of-reasons
-shape_of-reasons c = refl
-
-pub shape_of-tightened : goal.shape_of-tightened
-shape_of-tightened c = c.work_rows-bad.auto.tightened
-
-pub shape_of-used : goal.shape_of-used
-shape_of-used c = c.work_rows-bad.auto.used
-
-pub returns : goal.returns
-returns c =
-    let w = (goal.at.returns c).After-work_rows-bad in
-    let s = entry w in
-    let a = s.args in
-    let p = s.requires in
-    open-answer a.n a.m a.substitution.now a.marks.now a.back.now a.reasons.now a.steps
-    a.k a.inequalities.now w.work_rows-bad.new.tightened w.work_rows-bad.new.used
-    (worked w 0 c.if-bad-ne0.false) (tightened-long w) c.look.ensures p.conflict_value.0 p.n_bound.4 p.n_bound.6 p.n_bound.7
+pub returns-in-Err-clause-answer : goal.returns-in-Err-clause-answer
+returns-in-Err-clause-answer c =
+    let w = (goal.at.returns-in-Err-clause-answer c).After-work_rows in
+    let s = c.args.system in
+    let t = c.args.state.now in
+    let l = c.requires.lengths.0 in
+    let z = c.clear.ensures.state in
+    all-blank s.n s.m s.k refl (z.substitution, z.marks, z.way_back, z.reasons) (c.clear.ensures.conflict, c.clear.ensures.rows.0, c.clear.ensures.rows.1)
+    (l.substitution, l.marks, l.way_back, l.reasons, ap length c.requires.values.2 ∙ length-replicate (suc s.m) (pos 0), tightened-long w, c.work_rows.ensures.same.used_long ∙ c.requires.lengths.1.used)
+    ∙ large-answer s.n s.m t.substitution.now t.marks.now t.way_back.now t.reasons.now c.args.steps s.k c.args.inequalities.now
+    c.work_rows.new.rows.tightened.now c.work_rows.new.rows.used.now c.in-Err.inequality (worked w _ c.in-Err.is)

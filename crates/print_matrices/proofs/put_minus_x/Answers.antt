@@ -1,33 +1,22 @@
--- `print_matrices::put_minus_x` meets its contract: the numbers from column c on, written here, come to all of them.
-use mathlib.Core.Path.{refl}
+-- `print_matrices::put_minus_x` meets its contract: the numbers from column c on are left.
 use lib.IntN.{pos, neg_ℤ}
 use Rattle.matrix.specs.Printed.{turned}
-use Rattle.matrix.proofs.Joined.{ahead, done}
+use Rattle.print_numbers.proofs.Printing.{less_left, none_left}
 use Rattle.print_matrices.proofs.Columns.{unit-here, unit-other, unit-none}
-use native.Mathlib.Omega.{arith}
 use Rattle.print_matrices.proofs.put_minus_x.Goals as goal
-
-pub loop-c-init : goal.loop-c-init
-loop-c-init c = (omega arith, refl, refl)
-
-pub loop-c-preserved-then-here-i : goal.loop-c-preserved-then-here-i
-unfolding turned
-loop-c-preserved-then-here-i c =
-    let l = c in
-    let a = l.args in
-    let here = unit-here a.n a.i (neg_ℤ (pos 1)) l.loop-c.c c.loop-c-test.true c.if-here-i.true in
-    (omega arith, omega arith, ahead _ _ _ _ here c.put_spaced-to.ensures l.loop-c.invariant.2)
+use Rattle.print_matrices.proofs.put_minus_x.Goals.{then-c-i, else-c-i}
 
 pub loop-c-preserved : goal.loop-c-preserved
 unfolding turned
 loop-c-preserved c =
-    let l = c in
-    let a = l.args in
-    let other = unit-other a.n a.i (neg_ℤ (pos 1)) l.loop-c.c c.loop-c-test.true c.if-here-i.false in
-    (omega arith, omega arith, ahead _ _ _ _ other c.put_spaced-to-else-here-i.ensures l.loop-c.invariant.2)
+    let a = c.args in
+    let l = c.loop-c in
+    elim c.if-c-i.branch [
+      | then-c-i w ↦
+          less_left _ (unit-here a.n a.i (neg_ℤ (pos 1)) l.c c.loop-c-test.true w.if-c-i.true) l.invariant (rw w.z-is at c.put_spaced.ensures)
+      | else-c-i w ↦
+          less_left _ (unit-other a.n a.i (neg_ℤ (pos 1)) l.c c.loop-c-test.true w.if-c-i.false) l.invariant (rw w.z-is at c.put_spaced.ensures)
+    ]
 
 pub returns : goal.returns
-returns c =
-    let l = c in
-    let a = l.args in
-    done _ _ (unit-none a.n a.i (neg_ℤ (pos 1)) l.loop-c.c c.loop-c-test.false) l.loop-c.invariant.2
+returns c = none_left _ (unit-none c.args.n c.args.i (neg_ℤ (pos 1)) c.loop-c.c c.loop-c-test.false) c.loop-c.invariant

@@ -1,35 +1,45 @@
--- `print_matrices::put_open` meets its contract: the open columns from c on, written here, come to all of them.
-use mathlib.Core.Path.{refl, ◌∙◌}
-use Rattle.rows.specs.Row.{at}
-use Rattle.whole.proofs.Taken.{back}
-use Rattle.matrix.proofs.Joined.{ahead}
-use Rattle.print_matrices.proofs.Columns.{open-past, open-here, open-last}
+-- `print_matrices::put_open` meets its contract: the open columns from column c on are left.
+use mathlib.Core.Path.{◌≡◌, refl}
 use native.Mathlib.Omega.{arith}
+use lib.ListN.{length}
+use lib.IntN.{pos}
+use Rattle.std.proofs.lemmas.List.{length_push}
+use Rattle.std.proofs.lemmas.Slice.Zip.{zip_turn, zip_end}
+use Rattle.whole.proofs.Taken.{back}
+use Rattle.rows.specs.Row.{at}
+use Rattle.print_numbers.proofs.Printing.{less_left, rest_printed}
+use Rattle.print_matrices.proofs.Columns.{open-past, open-here, open-last}
 use Rattle.print_matrices.proofs.put_open.Goals as goal
 
-pub loop-c-init : goal.loop-c-init
-loop-c-init c = (omega arith, refl, refl)
+pub loop-mark-preserved-then-mark-ne0 : goal.loop-mark-preserved-then-mark-ne0
+loop-mark-preserved-then-mark-ne0 c =
+    let a = c.args in
+    let l = c.loop-mark in
+    let turn =
+    zip_turn a.marks.now a.row.now l.yielded c.into_iter-mark-iterator.result l.mark-iterator c.next.new.self _ (cc) (cc)
+    l.yielded_by _ c.in-Some.is c.next.ensures.steps in
+    let here = open-here a.opposite a.marks.now a.row.now (length l.yielded) turn.0 turn.1 (rw (turn.2 0) at c.if-mark-ne0.true) in
+    let number = rw (back c.in-Some.z.now (omega arith), turn.3 (pos 0)) at c.put_spaced.ensures in
+    rw length_push (less_left _ here l.invariant number)
 
-pub loop-c-preserved-then-mark-ne0 : goal.loop-c-preserved-then-mark-ne0
-loop-c-preserved-then-mark-ne0 c =
-    let l = c in
-    let a = l.args in
-    let p = l.loop-c.c in
-    let here = open-here a.opposite a.marks.now a.row.now p c.loop-c-test.true (omega arith) c.if-mark-ne0.true in
-    let wrote = rw (back (at a.row.now p) c.z-1.given) at c.put_spaced-to.ensures in
-    (omega arith, omega arith, ahead _ _ _ _ here wrote l.loop-c.invariant.2)
-
-pub loop-c-preserved : goal.loop-c-preserved
-loop-c-preserved c =
-    let l = c in
-    let a = l.args in
-    let past = open-past a.opposite a.marks.now a.row.now l.loop-c.c c.loop-c-test.true (omega arith) c.if-mark-ne0.false in
-    (omega arith, omega arith, rw past at l.loop-c.invariant.2)
+pub loop-mark-preserved : goal.loop-mark-preserved
+loop-mark-preserved c =
+    let a = c.args in
+    let l = c.loop-mark in
+    let turn =
+    zip_turn a.marks.now a.row.now l.yielded c.into_iter-mark-iterator.result l.mark-iterator c.next.new.self _ (cc) (cc)
+    l.yielded_by _ c.in-Some.is c.next.ensures.steps in
+    let past = open-past a.opposite a.marks.now a.row.now (length l.yielded) turn.0 turn.1 (rw (turn.2 0) at c.if-mark-ne0.false) in
+    rw length_push (rw past at l.invariant)
 
 pub returns : goal.returns
 returns c =
-    let l = c in
-    let a = l.args in
-    let p = l.loop-c.c in
-    let last = open-last a.opposite a.marks.now a.row.now p (omega arith) l.requires in
-    rw (back (at a.row.now p) c.put_spaced-arg-3-1.given) at c.put_spaced.ensures ∙ rw last at l.loop-c.invariant.2
+    let a = c.args in
+    let l = c.loop-mark in
+    let end =
+    zip_end a.marks.now a.row.now l.yielded c.into_iter-mark-iterator.result l.mark-iterator c.next.new.self _ (cc) (cc)
+    l.yielded_by c.in-None.is c.next.ensures.steps in
+    let all : length l.yielded ≡ length a.marks.now = omega (arith, end) in
+    let last = open-last a.opposite a.marks.now a.row.now (length a.marks.now) refl c.requires in
+    let number = rw (back (at a.row.now (length a.marks.now)) (omega arith)) at c.put_spaced-2.ensures in
+    rest_printed (rw (all, last) at l.invariant) number

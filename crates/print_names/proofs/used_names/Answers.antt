@@ -1,30 +1,35 @@
--- `print_names::used_names` meets its contract: the names from equation i + 1 on, written here, come to all of them.
-use mathlib.Core.Path.{refl}
+-- `print_names::used_names` meets its contract: the names from equation i + 1 on are left.
+use mathlib.Core.List.{[], ◌∷◌, ◌++◌}
+use Prim.Native.Nat.{◌+◌}
 use native.Mathlib.Nat.{sub-zero}
-use Rattle.matrix.proofs.Joined.{join, single, ahead, done}
-use Rattle.print_names.proofs.NamesAhead.{used-none, used-past, used-here}
-use native.Mathlib.Omega.{arith}
+use Rattle.matrix.specs.Bytes.{space}
+use Rattle.matrix.specs.Printed.{decimal, equation_letter}
+use Rattle.print_numbers.specs.Shown.{Prints}
+use Rattle.print_numbers.proofs.Printing.{both, less_left, none_left}
+use Rattle.print_names.proofs.NamesAhead.{used-none, used-past, used_by_one, used_by_other}
 use Rattle.print_names.proofs.used_names.Goals as goal
-
-pub loop-i-init : goal.loop-i-init
-loop-i-init c = (omega arith, refl, refl)
-
-pub loop-i-preserved-then-uses-ne0 : goal.loop-i-preserved-then-uses-ne0
-loop-i-preserved-then-uses-ne0 c =
-    let l = c in
-    let w = l.loop-i in
-    let here = used-here l.args.m w.i w.a w.b c.loop-i-test.true c.if-uses-ne0.true in
-    (omega arith, omega arith, ahead _ _ _ _ here (join _ _ _ c.put_name-to.ensures (single _ _ c.put_byte-to.ensures)) w.invariant.2)
+use Rattle.print_names.proofs.used_names.Goals.{then-one-eq1, then-one-eq1-via-then-one-eq1, then-one-eq1-via-else-one-eq1+then-other-eq1, else-one-eq1+else-other-eq1}
 
 pub loop-i-preserved : goal.loop-i-preserved
 loop-i-preserved c =
-    let l = c in
-    let w = l.loop-i in
-    (omega arith, omega arith, rw (used-past l.args.m w.i w.a w.b c.loop-i-test.true c.if-uses-ne0.false) at w.invariant.2)
+    let m = c.args.m in
+    let l = c.loop-i in
+    elim c.if-one-eq1.branch [
+      | then-one-eq1 w ↦
+          let named : Prints l.page c.if-one-eq1.page ((equation_letter ∷ decimal (l.i + 1)) ++ space ∷ []) =
+          rw w.page-is (both w.put_name.ensures w.put_byte.ensures) in
+          elim w.then-one-eq1.branch [
+            | then-one-eq1-via-then-one-eq1 v ↦
+                less_left _ (used_by_one m l.i l.one l.other c.loop-i-test.true v.if-one-eq1.true) l.invariant named
+            | then-one-eq1-via-else-one-eq1+then-other-eq1 v ↦
+                less_left _ (used_by_other m l.i l.one l.other c.loop-i-test.true v.if-one-eq1.false v.if-other-eq1.true) l.invariant named
+          ]
+      | else-one-eq1+else-other-eq1 w ↦
+          rw w.page-is (rw (used-past m l.i l.one l.other c.loop-i-test.true w.if-one-eq1.false w.if-other-eq1.false) at l.invariant)
+    ]
 
 pub returns : goal.returns
 returns c =
-    let l = c in
-    let w = l.loop-i in
-    let m = l.args.m in
-    rw (sub-zero m) at (done _ _ (used-none m w.i w.a w.b c.loop-i-test.false) w.invariant.2)
+    let m = c.args.m in
+    let l = c.loop-i in
+    rw sub-zero at (none_left _ (used-none m l.i l.one l.other c.loop-i-test.false) l.invariant)

@@ -7,10 +7,8 @@ use Rattle.print_numbers.proofs.below_zero.Goals as goal
 
 pub returns-then-opposite : goal.returns-then-opposite
 unfolding turned
-returns-then-opposite c =
-    let s = c in
-    rw (to_z-of_z s.ranges.z, c.if-opposite.true) (sym (below-turned s.args.z))
+returns-then-opposite c = rw (to_z-of_z c.ranges.z, c.if-opposite.true) (sym (below-turned c.args.z))
 
-pub returns : goal.returns
+pub returns-else-opposite : goal.returns-else-opposite
 unfolding turned
-returns c = rw (to_z-of_z c.ranges.z, c.if-opposite.false)
+returns-else-opposite c = rw (to_z-of_z c.ranges.z, c.if-opposite.false)

@@ -1,23 +1,30 @@
 -- `print_outcomes::print` meets its contract: in each kind of outcome the definition computes.
+use mathlib.Core.Path.{◌≡◌}
+use mathlib.Core.List.{List, []}
+use Prim.Native.Nat.{ℕ}
+use borrow.Author.Rules.{rules}
+use Rattle.outcomes.specs.Answered.{tables}
 use Rattle.matrix.specs.Printed.{printed}
+use Rattle.print_numbers.specs.declared.Page.{Page}
+use Rattle.print_numbers.specs.Shown.{Prints}
 use Rattle.print_outcomes.proofs.print.Goals as goal
+use Rattle.print_outcomes.proofs.print.Goals.{in-Open, in-EquationConflict, in-OneRowConflict, in-TwoRowConflict, in-Refused}
 
-pub returns-in-Open : goal.returns-in-Open
-unfolding printed
-returns-in-Open c = rw c.in-Open.is c.print_open.ensures
+-- what an arm printed, at the page and the outcome behind the `match`
+arm : {before last after : Page} {bytes whole : List ℕ} → Prints before last bytes → after ≡ last → whole ≡ bytes → Prints before after whole
+arm h e f = rw (e, f) h
 
-pub returns-in-EquationConflict : goal.returns-in-EquationConflict
+pub returns : goal.returns
 unfolding printed
-returns-in-EquationConflict c = rw c.in-EquationConflict.is c.print_equations.ensures
-
-pub returns-in-OneRowConflict : goal.returns-in-OneRowConflict
-unfolding printed
-returns-in-OneRowConflict c = rw c.in-OneRowConflict.is c.print_row.ensures
-
-pub returns-in-TwoRowConflict : goal.returns-in-TwoRowConflict
-unfolding printed
-returns-in-TwoRowConflict c = rw c.in-TwoRowConflict.is c.print_rows.ensures
-
-pub returns-in-Refused : goal.returns-in-Refused
-unfolding printed
-returns-in-Refused c = rw c.in-Refused.is c.error.ensures
+returns c =
+    let a = c.args in
+    let results = tables a.substitution.now a.marks.now [] [] a.conflict.now a.tightened.now a.used.now in
+    let told : Prints _ c.match-outcome.sheet (printed a.system.n a.system.m a.system.k a.outcome results) =
+    elim c.match-outcome.branch [
+      | in-Open w ↦ arm w.print_open.ensures w.sheet-is (rw w.in-Open.is)
+      | in-EquationConflict w ↦ arm w.print_equations.ensures w.sheet-is (rw w.in-EquationConflict.is)
+      | in-OneRowConflict w ↦ arm w.print_row.ensures w.sheet-is (rw w.in-OneRowConflict.is)
+      | in-TwoRowConflict w ↦ arm w.print_rows.ensures w.sheet-is (rw w.in-TwoRowConflict.is)
+      | in-Refused w ↦ arm w.put_error.ensures w.sheet-is (rw w.in-Refused.is)
+    ] in
+    search rules

@@ -1,9 +1,6 @@
 -- `print_outcomes::print_rows` meets its contract: the word, then the names.
-use Rattle.matrix.proofs.Joined.{join}
+use Rattle.print_numbers.proofs.Printing.{both}
 use Rattle.print_outcomes.proofs.print_rows.Goals as goal
 
 pub returns : goal.returns
-returns c =
-    let r = c in
-    let u = r in
-    join _ _ _ u.put_unsat-to.ensures (rw (u.used_by-one.ensures, u.used_by-other.ensures) at r.names_of_rows.ensures)
+returns c = both c.put_bytes.ensures (rw (c.used_by.ensures, c.used_by-2.ensures) at c.names_of_rows.ensures)

@@ -1,130 +1,104 @@
 -- `runs::solve_good` meets its contract. A run that finished leaves its state in the tables, from which the inequalities are worked. A
--- run that ended otherwise has its tables, with zeros for the inequalities. `Places` has what holds after the run.
-use mathlib.Core.Path.{sym, ap, ◌∙◌, subst}
-use Prim.Native.Nat.{ℕ, suc}
+-- run that ended otherwise has its tables, with zeros for the inequalities.
+use mathlib.Core.Path.{◌≡◌, sym, ap, ◌∙◌, subst}
+use mathlib.Core.Bool.{true}
+use mathlib.Core.List.{List}
+use Prim.Native.Nat.{ℕ, suc, ◌*◌}
 use lib.ListN.{replicate}
-use lib.IntN.{pos}
+use lib.IntN.{ℤ, pos}
+use Rattle.rows.specs.Row.{all_within}
 use Rattle.rows.specs.Table.{rows_of}
-use Rattle.elimination.specs.Eliminated.{outcome_of}
-use Rattle.runs.proofs.Ended.{NotOpen}
-use Rattle.outcomes.proofs.Finished.{run-answer}
-use Rattle.runs.proofs.solve_good.Answers.Places.{entry, substitution, marks, way_back, reasons, substitution-long, marks-long, way_back-long, reasons-long, after_run_lem, run, steps, done, inside, conflict-blank}
-use Rattle.runs.proofs.solve_good.Goals.{After-eliminate-ran, In-Finished}
+use Rattle.rules.specs.declared.Outcome.{Outcome}
+use Rattle.rules.specs.Elimination.{finished, elimination}
+use Rattle.rules.specs.Lent.{StateLengths}
+use Rattle.rules.specs.Outcomes.{after_run}
+use Rattle.all_rows.specs.declared.Ran.{Ran}
+use Rattle.all_rows.specs.declared.Ran.TheVariants.{Finished}
+use Rattle.stepping.specs.Worked.{state_now}
+use Rattle.elimination.specs.Eliminated.{FinishedNow, outcome_of}
+use Rattle.outcomes.specs.Answered.{answer}
+use Rattle.outcomes.proofs.Tabled.{same_answer}
+use Rattle.outcomes.proofs.Finished.{run-answer, substitution-within}
+use Rattle.runs.proofs.Ended.{NotOpen, alone, after-end, no-conflict}
+use Rattle.runs.proofs.solve_good.Goals.{After-eliminate}
 use Rattle.runs.proofs.solve_good.Goals as goal
-mod Places
 
-pub eliminate-ran-requires : goal.eliminate-ran-requires
-eliminate-ran-requires c =
-    let p = c.requires in
-    record { le_n = (p.le_n.0, p.le_n.1, p.le_n.2, p.le_n.4, p.conflict_len.3); substitution_len = (p.inequalities_len.1, p.inequalities_len.2, p.inequalities_len.3, p.inequalities_len.4, p.conflict_len.0) }
+-- ---- after the run: its tables have the lengths that they came with
+long : (q : After-eliminate) → StateLengths q.args.system.n q.args.system.m q.eliminate.new.state
+long q =
+    let s = q.eliminate.ensures.same.1 in
+    let l = q.requires.lengths.state_long in
+    record {
+      substitution = s.substitution ∙ l.substitution;
+      marks = s.marks ∙ l.marks;
+      way_back = s.way_back ∙ l.way_back;
+      reasons = s.reasons ∙ l.reasons;
+    }
+
+-- ---- where it finished, they show the state that it ended in
+module _ (q : After-eliminate) (steps : ℕ) (is : q.eliminate.result ≡ Finished steps) where
+  done : finished (state_now q.args.system.n q.args.system.m q.eliminate.new.state steps)
+      ≡ elimination q.args.system.n q.args.system.m (rows_of (suc q.args.system.n) q.args.system.m q.args.equations.now)
+  done = subst (λ (x : Ran). FinishedNow x q.args.system.n q.args.system.m q.args.equations.now q.eliminate.new.state) is q.eliminate.ensures.run.run_state
+
+  inside : all_within q.eliminate.new.state.substitution.now ≡ true
+  inside =
+      let s = q.args.system in
+      let t = q.eliminate.new.state in
+      substitution-within s.n s.m q.args.equations.now t.substitution.now t.marks.now t.way_back.now t.reasons.now steps done
+      q.requires.lengths.equations_long q.requires.within.0 (long q).substitution
+
+  blank : q.eliminate.new.conflict ≡ replicate (suc q.args.system.m) (pos 0)
+  blank =
+      let s = q.args.system in
+      q.eliminate.ensures.run.conflict_table
+      ∙ no-conflict s.n s.m (state_now s.n s.m q.eliminate.new.state steps) (elimination s.n s.m (rows_of (suc s.n) s.m q.args.equations.now)) done
 
 pub with_inequalities-requires : goal.with_inequalities-requires
 with_inequalities-requires c =
-    let r = (goal.at.with_inequalities-requires c).In-Finished in
-    let q = run r in
-    let p = (entry q).requires in record { n_bound = (p.le_n.1, p.le_n.2, p.le_n.3, p.inequalities_len.0, substitution-long q, marks-long q, way_back-long q, reasons-long q); conflict_value = (conflict-blank r, p.conflict_len.1, p.conflict_len.2, p.conflict_len.4, inside r) }
+    let q = (goal.at.with_inequalities-requires c).After-eliminate in
+    record {
+      size = (c.requires.size.1, c.requires.size.2, c.requires.size.3, c.requires.lengths.inequalities_long);
+      lengths = (long q, c.requires.lengths.rows_long);
+      values = (c.requires.within.1, inside q c.in-Finished.steps c.in-Finished.is, blank q c.in-Finished.steps c.in-Finished.is);
+    }
 
-pub fill-requires : goal.fill-requires
-fill-requires c = tt
+pub returns-in-Finished-clause-answer : goal.returns-in-Finished-clause-answer
+returns-in-Finished-clause-answer c =
+    let q = (goal.at.returns-in-Finished-clause-answer c).After-eliminate in
+    let s = c.args.system in
+    let t = c.eliminate.new.state in
+    c.with_inequalities.ensures.answer
+    ∙ run-answer s.n s.m c.args.equations.now t.substitution.now t.marks.now t.way_back.now t.reasons.now c.in-Finished.steps (done q c.in-Finished.steps c.in-Finished.is)
+    s.k (rows_of (suc s.n) s.k c.args.inequalities.now)
 
-pub fill_sets-requires : goal.fill_sets-requires
-fill_sets-requires c = tt
+-- ---- where it ended otherwise, they are those of the answer, with zeros for the inequalities
+ended : {outcome : Outcome} {tightened : List ℤ} {used : List ℕ} (q : After-eliminate) → let s = q.args.system in let t = q.eliminate.new.state in
+    let run = elimination s.n s.m (rows_of (suc s.n) s.m q.args.equations.now) in
+    outcome ≡ (alone s.n s.m run).outcome
+    → tightened ≡ replicate (s.k * suc s.n) (pos 0) → used ≡ replicate s.k 0 → NotOpen (alone s.n s.m run).outcome
+    → answer outcome t.substitution.now t.marks.now t.way_back.now t.reasons.now q.eliminate.new.conflict tightened used
+    ≡ after_run s.n s.m s.k (rows_of (suc s.n) s.k q.args.inequalities.now) run
+ended q o t u closed =
+    let s = q.args.system in
+    let e = q.eliminate.ensures.run in
+    same_answer o e.substitution e.marks e.way_back e.reasons e.conflict_table t u
+    ∙ after-end s.n s.m s.k (rows_of (suc s.n) s.k q.args.inequalities.now) (elimination s.n s.m (rows_of (suc s.n) s.m q.args.equations.now)) closed
 
-pub fill-requires-in-Grown : goal.fill-requires-in-Grown
-fill-requires-in-Grown c = tt
-
-pub fill_sets-requires-in-Grown : goal.fill_sets-requires-in-Grown
-fill_sets-requires-in-Grown c = tt
-
-pub shape_of-substitution-in-Finished : goal.shape_of-substitution-in-Finished
-shape_of-substitution-in-Finished c = c.with_inequalities.auto.substitution ∙ c.eliminate-ran.auto.substitution
-
-pub shape_of-marks-in-Finished : goal.shape_of-marks-in-Finished
-shape_of-marks-in-Finished c = c.with_inequalities.auto.marks ∙ c.eliminate-ran.auto.marks
-
-pub shape_of-back-in-Finished : goal.shape_of-back-in-Finished
-shape_of-back-in-Finished c = c.with_inequalities.auto.back ∙ c.eliminate-ran.auto.back
-
-pub shape_of-reasons-in-Finished : goal.shape_of-reasons-in-Finished
-shape_of-reasons-in-Finished c = c.with_inequalities.auto.reasons ∙ c.eliminate-ran.auto.reasons
-
-pub shape_of-conflict-in-Finished : goal.shape_of-conflict-in-Finished
-shape_of-conflict-in-Finished c = c.with_inequalities.auto.conflict ∙ c.eliminate-ran.auto.conflict
-
-pub shape_of-tightened-in-Finished : goal.shape_of-tightened-in-Finished
-shape_of-tightened-in-Finished c = c.with_inequalities.auto.tightened
-
-pub shape_of-used-in-Finished : goal.shape_of-used-in-Finished
-shape_of-used-in-Finished c = c.with_inequalities.auto.used
-
-pub returns-in-Finished : goal.returns-in-Finished
-returns-in-Finished c =
-    let l = c in
-    let r = (goal.at.returns-in-Finished l).In-Finished in
-    let q = run r in
-    let a = (entry q).args in
-    l.with_inequalities.ensures
-    ∙ run-answer a.n a.m a.equations.now (substitution q) (marks q) (way_back q) (reasons q) (steps r) (done r)
-    a.k (rows_of (suc a.n) a.k a.inequalities.now)
-
-pub shape_of-substitution-in-Conflict : goal.shape_of-substitution-in-Conflict
-shape_of-substitution-in-Conflict c = c.eliminate-ran.auto.substitution
-
-pub shape_of-marks-in-Conflict : goal.shape_of-marks-in-Conflict
-shape_of-marks-in-Conflict c = c.eliminate-ran.auto.marks
-
-pub shape_of-back-in-Conflict : goal.shape_of-back-in-Conflict
-shape_of-back-in-Conflict c = c.eliminate-ran.auto.back
-
-pub shape_of-reasons-in-Conflict : goal.shape_of-reasons-in-Conflict
-shape_of-reasons-in-Conflict c = c.eliminate-ran.auto.reasons
-
-pub shape_of-conflict-in-Conflict : goal.shape_of-conflict-in-Conflict
-shape_of-conflict-in-Conflict c = c.eliminate-ran.auto.conflict
-
-pub shape_of-tightened-in-Conflict : goal.shape_of-tightened-in-Conflict
-shape_of-tightened-in-Conflict c = c.fill.auto.table
-
-pub shape_of-used-in-Conflict : goal.shape_of-used-in-Conflict
-shape_of-used-in-Conflict c = c.fill_sets.auto.table
-
-pub returns-in-Conflict : goal.returns-in-Conflict
-returns-in-Conflict c =
-    let q = (goal.at.returns-in-Conflict c).After-eliminate-ran in
-    let s = entry q in
-    let said = sym (ap outcome_of c.in-Conflict.is) ∙ q.eliminate-ran.ensures.outcome in
-    after_run_lem q said
-    (c.fill.ensures ∙ ap (λ (l : ℕ). replicate l (pos 0)) s.requires.conflict_len.1)
-    (c.fill_sets.ensures ∙ ap (λ (l : ℕ). replicate l 0) s.requires.conflict_len.2)
+pub returns-in-Conflict-clause-answer : goal.returns-in-Conflict-clause-answer
+returns-in-Conflict-clause-answer c =
+    let q = (goal.at.returns-in-Conflict-clause-answer c).After-eliminate in
+    let said = sym (ap outcome_of c.in-Conflict.is) ∙ c.eliminate.ensures.run.outcome in
+    ended q said
+    (c.clear_rows.ensures.zeros.0 ∙ ap (λ (l : ℕ). replicate l (pos 0)) c.requires.lengths.rows_long.tightened)
+    (c.clear_rows.ensures.zeros.1 ∙ ap (λ (l : ℕ). replicate l 0) c.requires.lengths.rows_long.used)
     (subst NotOpen said tt)
 
-pub shape_of-substitution-in-Grown : goal.shape_of-substitution-in-Grown
-shape_of-substitution-in-Grown c = c.eliminate-ran.auto.substitution
-
-pub shape_of-marks-in-Grown : goal.shape_of-marks-in-Grown
-shape_of-marks-in-Grown c = c.eliminate-ran.auto.marks
-
-pub shape_of-back-in-Grown : goal.shape_of-back-in-Grown
-shape_of-back-in-Grown c = c.eliminate-ran.auto.back
-
-pub shape_of-reasons-in-Grown : goal.shape_of-reasons-in-Grown
-shape_of-reasons-in-Grown c = c.eliminate-ran.auto.reasons
-
-pub shape_of-conflict-in-Grown : goal.shape_of-conflict-in-Grown
-shape_of-conflict-in-Grown c = c.eliminate-ran.auto.conflict
-
-pub shape_of-tightened-in-Grown : goal.shape_of-tightened-in-Grown
-shape_of-tightened-in-Grown c = c.fill-in-Grown.auto.table
-
-pub shape_of-used-in-Grown : goal.shape_of-used-in-Grown
-shape_of-used-in-Grown c = c.fill_sets-in-Grown.auto.table
-
-pub returns-in-Grown : goal.returns-in-Grown
-returns-in-Grown c =
-    let q = (goal.at.returns-in-Grown c).After-eliminate-ran in
-    let s = entry q in
-    let said = sym (ap outcome_of c.in-Grown.is) ∙ q.eliminate-ran.ensures.outcome in
-    after_run_lem q said
-    (c.fill-in-Grown.ensures ∙ ap (λ (l : ℕ). replicate l (pos 0)) s.requires.conflict_len.1)
-    (c.fill_sets-in-Grown.ensures ∙ ap (λ (l : ℕ). replicate l 0) s.requires.conflict_len.2)
+pub returns-in-Grown-clause-answer : goal.returns-in-Grown-clause-answer
+returns-in-Grown-clause-answer c =
+    let q = (goal.at.returns-in-Grown-clause-answer c).After-eliminate in
+    let said = sym (ap outcome_of c.in-Grown.is) ∙ c.eliminate.ensures.run.outcome in
+    ended q said
+    (c.clear_rows-in-Grown.ensures.zeros.0 ∙ ap (λ (l : ℕ). replicate l (pos 0)) c.requires.lengths.rows_long.tightened)
+    (c.clear_rows-in-Grown.ensures.zeros.1 ∙ ap (λ (l : ℕ). replicate l 0) c.requires.lengths.rows_long.used)
     (subst NotOpen said tt)

@@ -1,20 +1,21 @@
--- The loop of `stepping::stepping`. At its head the tables are good and as long as at entry, and what is ahead of them is what was
--- ahead at first. A turn makes one step: it is refused, it closes a column, or the next one is ahead.
+-- The loop of `stepping::stepping`. At its head the tables are good, and what is ahead of them is what was ahead at first. A turn makes
+-- one step: it is refused, it closes a column, or the next one is ahead.
 use mathlib.Core.Path.{◌≡◌}
-use Prim.Native.Nat.{suc, ◌+◌}
-use Rattle.stepping.proofs.Going.{comes_to, Long, Going}
+use Prim.Native.Nat.{suc, ◌+◌, ◌-◌}
 use lib.ListN.{take}
-use Rattle.rows.specs.Row.{smallest}
+use Rattle.rows.specs.Row.{at, smallest}
+use Rattle.rules.specs.Lent.{SameTables, SameLengths}
+use Rattle.steps.specs.Shown.{SameWork}
 use Rattle.stepping.specs.Worked.{bound_of}
+use Rattle.stepping.proofs.Going.{comes_to_now, GoingNow}
 use Rattle.stepping.proofs.stepping.Given as goal
 
-abbrev pub invariant-loop-left : goal.invariant-loop-left
-invariant-loop-left l =
-    let most = bound_of l.n (take (suc l.n) l.initial.rows) in
-    Long l.initial.rows l.initial.multipliers l.initial.divisors l.initial.substitution l.initial.marks l.initial.back l.initial.reasons l.rows l.multipliers l.divisors l.substitution l.marks l.back l.reasons
-    × Going (comes_to l.n l.m most l.before l.initial.rows l.initial.multipliers l.initial.divisors l.initial.substitution l.initial.marks l.initial.back l.initial.reasons) l.n l.m (l.before + most) l.rows l.multipliers l.divisors l.substitution l.marks l.back l.reasons l.left l.count
-    × (l.k ≡ smallest (take l.n l.rows))
-
-abbrev pub decreases-loop-left : goal.decreases-loop-left
-decreases-loop-left l =
-    l.left
+abbrev pub invariant-loop : goal.invariant-loop
+invariant-loop l =
+    let bound = bound_of l.n (take (suc l.n) l.fn.work.rows.now) in
+    SameWork l.fn.work l.work
+    × SameTables l.fn.state l.state
+    × SameLengths l.fn.state l.state
+    × GoingNow (comes_to_now l.n l.m bound l.before l.fn.work l.fn.state) l.n l.m (l.before + bound) l.work l.state (l.end - l.counter) l.count
+    × (l.k ≡ smallest (take l.n l.work.rows.now))
+    × (l.lead ≡ at l.work.rows.now l.k)

@@ -2,7 +2,6 @@
 -- limit as the table is.
 use mathlib.Core.Path.{◌≡◌}
 use mathlib.Core.Bool.{◌&&◌}
-use Prim.Native.Nat.{◌-◌, ◌≤◌}
 use Rattle.rows.specs.Row.{all_within}
 use Rattle.tables.proofs.Rowed.{Rowed, ahead_of, whole_of}
 use Rattle.tables.proofs.Multiples.{without}
@@ -11,7 +10,5 @@ use Rattle.tables.proofs.put_in.Given as goal
 abbrev pub invariant-loop-r : goal.invariant-loop-r
 invariant-loop-r l =
     let f = without l.k l.q in
-    (l.r ≤ l.count) × Rowed f l.w l.count l.initial.table l.table l.r × (l.fits && all_within (ahead_of f l.w l.count l.r l.initial.table) ≡ all_within (whole_of f l.w l.count l.initial.table))
-
-abbrev pub decreases-loop-r : goal.decreases-loop-r
-decreases-loop-r l = l.count - l.r
+    Rowed f l.w l.count l.fn.table l.table l.r
+    × (l.fits && all_within (ahead_of f l.w l.count l.r l.fn.table) ≡ all_within (whole_of f l.w l.count l.fn.table))

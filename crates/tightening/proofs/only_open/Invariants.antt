@@ -1,12 +1,8 @@
 -- `tightening::only_open` meets its contract: a sweep over the marks. A number at an open column is as it has to be already.
-use Prim.Native.Nat.{◌-◌, ◌≤◌}
-use lib.ListN.{length, drop}
+use Rattle.std.proofs.Common.{drop}
 use Rattle.rows.proofs.Sweep.{Swept}
 use Rattle.rules.specs.Inequalities.{only_open}
 use Rattle.tightening.proofs.only_open.Given as goal
 
 abbrev pub invariant-loop-k : goal.invariant-loop-k
-invariant-loop-k l = (l.k ≤ length l.marks) × Swept l.initial.row l.row (only_open l.marks l.initial.row) l.k (only_open (drop l.k l.marks) (drop l.k l.initial.row))
-
-abbrev pub decreases-loop-k : goal.decreases-loop-k
-decreases-loop-k l = length l.marks - l.k
+invariant-loop-k l = Swept l.initial.row l.row (only_open l.marks l.initial.row) l.k (only_open (drop l.k l.marks) (drop l.k l.initial.row))

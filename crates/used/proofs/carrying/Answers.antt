@@ -1,59 +1,59 @@
 -- `used::carrying` meets its contract: what is noted and what is left are all the columns that carry.
-use mathlib.Core.Bool.{Bool, true, false, cond}
-use mathlib.Core.Path.{◌≡◌, refl, sym, ap, ◌∙◌}
+use mathlib.Core.Bool.{Bool, cond}
+use mathlib.Core.Path.{◌≡◌, sym, ap, ◌∙◌}
 use mathlib.Core.List.{List, [], ◌∷◌, ◌++◌, append_assoc, append-nil}
-use Prim.Native.Nat.{ℕ, ◌+◌, ◌≤◌, ◌<◌}
+use Prim.Native.Nat.{ℕ, ◌+◌, ◌<◌}
+use native.Mathlib.Numerals.{add-one}
 use native.Mathlib.Omega.{arith}
 use borrow.Author.Rules.{rules}
-use lib.ListN.{length, get_or, take, drop}
+use lib.ListN.{length, get_or, set, take, drop}
+use lib.Seq.{take-suc-set}
 use Rattle.whole.proofs.Taken.{back}
 use Rattle.rows.specs.Row.{at}
 use Rattle.used.specs.Carrying.{carries as carries_of, carrying as carrying_of}
 use Rattle.used.proofs.Carried.{carrying-none, carrying-more}
+use Rattle.used.proofs.carrying.Goals.{After-carries, then-carries, else-carries}
 use Rattle.used.proofs.carrying.Goals as goal
 
 -- what a turn notes, with what is left
-noted : (there : Bool) (count p : ℕ) (columns exit : List ℕ) (r : ℕ) (rest : List ℕ) → take r exit ≡ take count columns ++ cond there (p ∷ []) []
-    → take r exit ++ rest ≡ take count columns ++ cond there (p ∷ rest) rest
-noted true count p columns exit r rest e = rw e (append_assoc (take count columns) (p ∷ []) rest)
-noted false count p columns exit r rest e = rw e (append_assoc (take count columns) [] rest)
+noted : (count p : ℕ) (columns rest : List ℕ) → count < length columns → take (count + 1) (set columns count p) ++ rest ≡ take count columns ++ (p ∷ rest)
+noted count p columns rest h = rw (add-one count, take-suc-set columns count p h) (append_assoc (take count columns) (p ∷ []) rest)
 
-few : (there : Bool) (count p : ℕ) → count ≤ p → count + cond there 1 0 ≤ p + 1
-few true count p h = omega arith
-few false count p h = omega arith
-
-pub loop-p-init : goal.loop-p-init
-loop-p-init c = (refl, omega arith, omega arith, refl)
-
-pub note-count-requires : goal.note-count-requires
-note-count-requires c =
-    let l = c in
-    let i = l.loop-p.invariant in
-    omega (arith, i.1, i.3, c.loop-p-test.true, l.requires.1)
+-- whether the column of a turn carries decides what is left
+left : (c : After-carries) → let p = c.loop-p.p in let rest = carrying_of (p + 1) (drop (p + 1) c.args.marks.now) (drop (p + 1) c.args.sums.now) in
+    carrying_of p (drop p c.args.marks.now) (drop p c.args.sums.now) ≡ cond c.carries.result (p ∷ rest) rest
+left c =
+    let p = c.loop-p.p in
+    let marks = c.args.marks.now in
+    let sums = c.args.sums.now in
+    let rest = carrying_of (p + 1) (drop (p + 1) marks) (drop (p + 1) sums) in
+    let there : c.carries.result ≡ carries_of (get_or marks p 0) (at sums p) = c.carries.ensures ∙ ap (carries_of (get_or marks p 0)) (back (at sums p) (omega arith)) in
+    carrying-more p marks sums (omega arith) (omega arith) ∙ ap (λ (b : Bool). cond b (p ∷ rest) rest) (sym there)
 
 pub loop-p-preserved : goal.loop-p-preserved
 loop-p-preserved c =
-    let n = c in
-    let k = n in
-    let i = k in
-    let l = i in
-    let a = l.args in
-    let w = l.loop-p in
-    let marks = a.marks.now in
-    let sums = a.sums.now in
-    let rest = carrying_of (w.p + 1) (drop (w.p + 1) marks) (drop (w.p + 1) sums) in
-    let short : w.p < length sums = omega (arith, l.requires.0, i.loop-p-test.true) in
-    let there : k.carries-there.result ≡ carries_of (get_or marks w.p 0) (at sums w.p) = k.carries-there.ensures ∙ ap (carries_of (get_or marks w.p 0)) (back (at sums w.p) k.carries-arg-1.given) in
-    let next = noted k.carries-there.result w.count w.p w.columns n.note-count.new.columns n.note-count.result rest n.note-count.ensures.0 in
-    (next ∙ rw there (ap (λ (x : List ℕ). take w.count w.columns ++ x) (sym (carrying-more w.p marks sums i.loop-p-test.true short))) ∙ w.invariant.0, rw n.note-count.ensures.1 (few k.carries-there.result w.count w.p w.invariant.1), omega arith, search rules)
-
-pub shape_of-columns : goal.shape_of-columns
-shape_of-columns c = c.loop-p.invariant.3
+    let l = c.loop-p in
+    let rest = carrying_of (l.p + 1) (drop (l.p + 1) c.args.marks.now) (drop (l.p + 1) c.args.sums.now) in
+    let next = left (goal.at.loop-p-preserved c).After-carries in
+    elim c.if-carries.branch [
+      | then-carries w ↦
+          rw (w.columns-is, w.count-is) record {
+            all =
+                noted l.count l.p l.columns rest (omega arith)
+                ∙ ap (λ (x : List ℕ). take l.count l.columns ++ x) (sym (next ∙ ap (λ (b : Bool). cond b (l.p ∷ rest) rest) w.if-carries.true)) ∙ l.invariant.all;
+            few = omega arith;
+            size = search rules;
+          }
+      | else-carries w ↦
+          rw (w.columns-is, w.count-is) record {
+            all = ap (λ (x : List ℕ). take l.count l.columns ++ x) (sym (next ∙ ap (λ (b : Bool). cond b (l.p ∷ rest) rest) w.if-carries.false)) ∙ l.invariant.all;
+            few = omega arith;
+            size = search rules;
+          }
+    ]
 
 pub returns : goal.returns
 returns c =
-    let l = c in
-    let a = l.args in
-    let i = l.loop-p.invariant in
-    let none = carrying-none l.loop-p.p a.marks.now a.sums.now c.loop-p-test.false in
-    (sym (append-nil _) ∙ ap (λ (x : List ℕ). take l.loop-p.count l.loop-p.columns ++ x) (sym none) ∙ i.0, omega (arith, i.1, i.2, i.3, l.requires.1))
+    let l = c.loop-p in
+    let none = carrying-none l.p c.args.marks.now c.args.sums.now (omega arith) in
+    sym (append-nil _) ∙ ap (λ (x : List ℕ). take l.count l.columns ++ x) (sym none) ∙ l.invariant.all

@@ -1,2 +1,0 @@
--- Laws of loops over a whole table.
-pub mod Filled

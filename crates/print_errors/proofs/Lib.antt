@@ -1,2 +1,0 @@
--- Laws of the line of a refusal.
-mod Refusals

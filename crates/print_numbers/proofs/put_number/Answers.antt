@@ -1,7 +1,0 @@
--- `print_numbers::put_number` meets its contract: 20 places.
-use Rattle.matrix.specs.Printed.{decimal}
-use Rattle.print_numbers.proofs.put_number.Goals as goal
-
-pub returns : goal.returns
-unfolding decimal
-returns c = c.put_digits.ensures

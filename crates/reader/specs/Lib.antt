@@ -1,2 +1,0 @@
--- What the reader's functions tell apart.
-pub mod Answers

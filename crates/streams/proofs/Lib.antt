@@ -1,0 +1,2 @@
+-- Laws of what reads give.
+pub mod Fronts

@@ -1,8 +1,0 @@
--- `whole::signed` meets its contract: a number below 2 ^ 63 has the same bits as a signed one.
-use native.Mathlib.Omega.{arith}
-use mir.Syntax.{w64}
-use mir.Facts.{to_z_pos}
-use Rattle.whole.proofs.signed.Goals as goal
-
-pub returns : goal.returns
-returns c = to_z_pos w64 (omega (arith, c.requires))
