@@ -34,7 +34,9 @@ fn from_row(
 ) -> Working
     requires ready { Working3 n m rows.old multipliers.old divisors.old × StateReady n m state.old }
     requires in_bounds { (1 ≤ length divisors.old) × (before ≤ 1000000) }
-    ensures made { answer_over result n m rows.new multipliers.new divisors.new state.new ≡ work all_within n (in_hand n m rows.old multipliers.old divisors.old) (later_of n m rows.old multipliers.old divisors.old) (state_now n m state.old before) }
+    ensures made { answer_over result n m rows.new multipliers.new divisors.new state.new ≡
+        work all_within n (in_hand n m rows.old multipliers.old divisors.old) (later_of n m rows.old multipliers.old divisors.old)
+        (state_now n m state.old before) }
     ensures same { SameTables state.old state.new × SameLengths state.old state.new }
 {
     let mut tables = WorkTables {

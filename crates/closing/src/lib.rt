@@ -20,9 +20,11 @@ fn correct_later(
     d: u64,
     reason: &[i64],
 ) -> bool
-    requires rows_len { (length rows.old ≡ length divisors.old * w) × (length multipliers.old ≡ length divisors.old * length reason.now) × (k < w) × Divisors divisors.old × Divisor d }
+    requires rows_len { (length rows.old ≡ length divisors.old * w) × (length multipliers.old ≡ length divisors.old * length reason.now) ×
+        (k < w) × Divisors divisors.old × Divisor d }
     requires rows_value { (all_within rows.old ≡ true) × (all_within multipliers.old ≡ true) × (all_within reason.now ≡ true) }
-    ensures { tried result (carried_of w (length reason.now) rows.new multipliers.new divisors.new) ≡ corrected_of k d reason.now (carried_of w (length reason.now) rows.old multipliers.old divisors.old) }
+    ensures { tried result (carried_of w (length reason.now) rows.new multipliers.new divisors.new) ≡
+        corrected_of k d reason.now (carried_of w (length reason.now) rows.old multipliers.old divisors.old) }
 {
     let m = reason.len();
     for (r, h) in divisors.iter_mut().enumerate() {
@@ -46,7 +48,8 @@ pub fn close(
     k: usize,
     a: i64,
 ) -> bool
-    requires work_len { (length work.old.rows.now ≡ length work.old.divisors.now * suc n) × (length work.old.multipliers.now ≡ length work.old.divisors.now * m) × (1 ≤ length work.old.divisors.now) }
+    requires work_len { (length work.old.rows.now ≡ length work.old.divisors.now * suc n) ×
+        (length work.old.multipliers.now ≡ length work.old.divisors.now * m) × (1 ≤ length work.old.divisors.now) }
     requires state_len { (length state.old.marks.now ≡ n) × (length state.old.reasons.now ≡ n * suc m) }
     requires n_bound { (n ≤ 32) × (m ≤ 32) × (k < n) × (nat_abs a ≤ 1) × Divisors work.old.divisors.now }
     requires work_value { (all_within work.old.rows.now ≡ true) × (all_within work.old.multipliers.now ≡ true) }

@@ -22,7 +22,9 @@ pub extern "C" fn plassobine_solve(
     used: &mut [u64],
     outcome: &mut [u64],
 ) -> u32
-    ensures { returned result outcome.new (tables_of substitution.new marks.new back.new reasons.new conflict.new tightened.new used.new) ≡ solved n m k equations.now inequalities.now (tables_of substitution.old marks.old back.old reasons.old conflict.old tightened.old used.old) outcome.old }
+    ensures { returned result outcome.new (tables_of substitution.new marks.new back.new reasons.new conflict.new tightened.new used.new) ≡
+        solved n m k equations.now inequalities.now
+        (tables_of substitution.old marks.old back.old reasons.old conflict.old tightened.old used.old) outcome.old }
 {
     exports::plassobine_solve(
         n,

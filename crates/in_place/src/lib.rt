@@ -45,7 +45,8 @@ fn add_row(table: &mut [i64], w: usize, k: usize, i: usize, c: i64)
 // Each row of the table added to row k of it as often as its number in cs says, in place. A row with 0 there is left out, and row k is
 // one of these: it changes on the way, so that it cannot be added to itself.
 pub fn gather_in(table: &mut [i64], w: usize, k: usize, cs: &[i64])
-    requires { (length table.old ≡ length cs.now * w) × (length cs.now ≤ 33) × (k < length cs.now) × (at cs.now k ≡ pos 0) × (all_within cs.now ≡ true) × (all_within table.old ≡ true) }
+    requires { (length table.old ≡ length cs.now * w) × (length cs.now ≤ 33) × (k < length cs.now) × (at cs.now k ≡ pos 0) ×
+        (all_within cs.now ≡ true) × (all_within table.old ≡ true) }
     ensures { table.new ≡ set_row w k (gathered (row_at w k table.old) cs.now (rows_of w (length cs.now) table.old)) table.old }
 {
     for (r, often) in cs.iter().enumerate() {

@@ -18,7 +18,8 @@ fn work_row(
     n: usize,
     m: usize,
 ) -> Option<u64>
-    requires row_len { (length row.old ≡ suc n) × (length inequality.now ≡ suc n) × (length state.now.substitution.now ≡ n * suc n) × (length state.now.marks.now ≡ n) × (length state.now.reasons.now ≡ n * suc m) }
+    requires row_len { (length row.old ≡ suc n) × (length inequality.now ≡ suc n) × (length state.now.substitution.now ≡ n * suc n) ×
+        (length state.now.marks.now ≡ n) × (length state.now.reasons.now ≡ n * suc m) }
     requires n_bound { (n ≤ 32) × (m ≤ 32) × (all_within inequality.now ≡ true) × (all_within state.now.substitution.now ≡ true) }
     ensures { row_shown result row.new ≡ row_worked n m (state_in n m state.now) inequality.now }
 {
@@ -40,10 +41,14 @@ pub fn work_rows(
     n: usize,
     m: usize,
 ) -> Result<(), usize>
-    requires tightened_len { (length rows.old.tightened.now ≡ length rows.old.used.now * suc n) × (length inequalities.now ≡ length rows.old.used.now * suc n) × (length state.now.substitution.now ≡ n * suc n) × (length state.now.marks.now ≡ n) × (length state.now.reasons.now ≡ n * suc m) }
-    requires n_bound { (n ≤ 32) × (m ≤ 32) × (length rows.old.used.now ≤ 64) × (all_within inequalities.now ≡ true) × (all_within state.now.substitution.now ≡ true) }
+    requires tightened_len { (length rows.old.tightened.now ≡ length rows.old.used.now * suc n) ×
+        (length inequalities.now ≡ length rows.old.used.now * suc n) × (length state.now.substitution.now ≡ n * suc n) ×
+        (length state.now.marks.now ≡ n) × (length state.now.reasons.now ≡ n * suc m) }
+    requires n_bound { (n ≤ 32) × (m ≤ 32) × (length rows.old.used.now ≤ 64) × (all_within inequalities.now ≡ true) ×
+        (all_within state.now.substitution.now ≡ true) }
     ensures same { SameRows rows.old rows.new }
-    ensures worked { rows_shown n (length rows.old.used.now) result rows.new.tightened.now rows.new.used.now ≡ rows_worked n m (state_in n m state.now) (rows_of (suc n) (length rows.old.used.now) inequalities.now) }
+    ensures worked { rows_shown n (length rows.old.used.now) result rows.new.tightened.now rows.new.used.now ≡
+        rows_worked n m (state_in n m state.now) (rows_of (suc n) (length rows.old.used.now) inequalities.now) }
 {
     let w = n + 1;
     let tightened = &mut *rows.tightened;

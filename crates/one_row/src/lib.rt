@@ -22,7 +22,8 @@ pub fn work(
 ) -> Working
     requires ready { WorkReady n m work.old × StateReady n m state.old }
     requires in_bounds { (1 ≤ length work.old.divisors.now) × (before ≤ 1000000) }
-    ensures made { answer_now result n m work.new state.new ≡ work_of all_within n (hand_now n m work.old) (later_now n m work.old) (state_now n m state.old before) }
+    ensures made { answer_now result n m work.new state.new ≡
+        work_of all_within n (hand_now n m work.old) (later_now n m work.old) (state_now n m state.old before) }
     ensures same { SameWork work.old work.new × SameTables state.old state.new × SameLengths state.old state.new }
 {
     let rows = &mut *work.rows;

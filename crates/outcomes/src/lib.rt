@@ -40,9 +40,12 @@ pub fn with_inequalities(
 ) -> Outcome
     requires size { (system.n ≤ 32) × (system.m ≤ 32) × (system.k ≤ 64) × (length inequalities.now ≡ system.k * suc system.n) }
     requires lengths { StateLengths system.n system.m state.old × RowLengths system.n system.k rows.old }
-    requires values { (all_within inequalities.now ≡ true) × (all_within state.old.substitution.now ≡ true) × (conflict.old ≡ replicate (suc system.m) (pos 0)) }
+    requires values { (all_within inequalities.now ≡ true) × (all_within state.old.substitution.now ≡ true) ×
+        (conflict.old ≡ replicate (suc system.m) (pos 0)) }
     ensures same { SameTables state.old state.new × SameLengths state.old state.new × SameRows rows.old rows.new }
-    ensures answer { answer_in result state.new conflict.new rows.new ≡ with_inequalities_of system.n system.m system.k (rows_of (suc system.n) system.k inequalities.now) (state_now system.n system.m state.old steps) }
+    ensures answer { answer_in result state.new conflict.new rows.new ≡
+        with_inequalities_of system.n system.m system.k (rows_of (suc system.n) system.k inequalities.now)
+        (state_now system.n system.m state.old steps) }
 {
     match inequalities::work_rows(rows, inequalities, state, system.n, system.m) {
         Ok(()) => {

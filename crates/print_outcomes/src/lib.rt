@@ -84,8 +84,11 @@ pub fn print(
     page: &mut [u8],
 ) -> usize
     requires size { (system.n ≤ 32) × (system.m ≤ 32) × (system.k ≤ 64) }
-    requires lengths { (length substitution.now ≡ system.n * suc system.n) × (length marks.now ≡ system.n) × (length conflict.now ≡ suc system.m) × (length tightened.now ≡ system.k * suc system.n) }
-    ensures { page_of page.new result ≡ written (printed system.n system.m system.k outcome (tables_of substitution.now marks.now [] [] conflict.now tightened.now used.now)) (page_of page.old 0) }
+    requires lengths { (length substitution.now ≡ system.n * suc system.n) × (length marks.now ≡ system.n) ×
+        (length conflict.now ≡ suc system.m) × (length tightened.now ≡ system.k * suc system.n) }
+    ensures { page_of page.new result ≡
+        written (printed system.n system.m system.k outcome
+        (tables_of substitution.now marks.now [] [] conflict.now tightened.now used.now)) (page_of page.old 0) }
 {
     let System { n, m, k } = system;
     let mut sheet = Page {

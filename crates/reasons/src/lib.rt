@@ -19,9 +19,11 @@ pub fn scale_into(into: &mut [i64], row: &[i64], c: i64)
 
 // Column k marked closed, with its reason: the multipliers and the divisor d.
 pub fn note_reason(marks: &mut [u8], reasons: &mut [i64], reason: &[i64], k: usize, d: u64)
-    requires { (k < length marks.old) × (length reasons.old ≡ length marks.old * suc (length reason.now)) × (length marks.old ≤ 32) × (length reason.now ≤ 32) × Divisor d }
+    requires { (k < length marks.old) × (length reasons.old ≡ length marks.old * suc (length reason.now)) × (length marks.old ≤ 32) ×
+        (length reason.now ≤ 32) × Divisor d }
     ensures marks { marks.new ≡ set marks.old k 0 }
-    ensures reasons { rows_of (suc (length reason.now)) (length marks.old) reasons.new ≡ set (rows_of (suc (length reason.now)) (length marks.old) reasons.old) k (reason.now ++ pos d ∷ []) }
+    ensures reasons { rows_of (suc (length reason.now)) (length marks.old) reasons.new ≡
+        set (rows_of (suc (length reason.now)) (length marks.old) reasons.old) k (reason.now ++ pos d ∷ []) }
 {
     let m = reason.len();
     marks[k] = 0;

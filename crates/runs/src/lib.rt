@@ -15,7 +15,8 @@ use rules::{Outcome, Refusal, RowTables, StateTables, System};
 // The tables of the inequalities full of zeros, where none is worked.
 fn clear_rows(rows: &mut RowTables)
     ensures same { SameRows rows.old rows.new }
-    ensures zeros { (rows.new.tightened.now ≡ replicate (length rows.old.tightened.now) (pos 0)) × (rows.new.used.now ≡ replicate (length rows.old.used.now) 0) }
+    ensures zeros { (rows.new.tightened.now ≡ replicate (length rows.old.tightened.now) (pos 0)) ×
+        (rows.new.used.now ≡ replicate (length rows.old.used.now) 0) }
 {
     rows.tightened.fill(0);
     rows.used.fill(0);
@@ -34,7 +35,9 @@ pub fn solve_good(
     requires lengths { CallLengths system equations.now inequalities.now state.old conflict.old rows.old }
     requires within { (all_within equations.now ≡ true) × (all_within inequalities.now ≡ true) }
     ensures same { SameTables state.old state.new × SameLengths state.old state.new × SameRows rows.old rows.new }
-    ensures answer { answer_in result state.new conflict.new rows.new ≡ after_run system.n system.m system.k (rows_of (suc system.n) system.k inequalities.now) (elimination_of system.n system.m (rows_of (suc system.n) system.m equations.now)) }
+    ensures answer { answer_in result state.new conflict.new rows.new ≡
+        after_run system.n system.m system.k (rows_of (suc system.n) system.k inequalities.now)
+        (elimination_of system.n system.m (rows_of (suc system.n) system.m equations.now)) }
 {
     match elimination::eliminate(equations, state, conflict, system.n, system.m) {
         Ran::Finished(steps) => {

@@ -41,7 +41,8 @@ pub fn solve_in(
     rows: &mut RowTables,
 ) -> Outcome
     ensures same { SameTables state.old state.new × SameLengths state.old state.new × SameRows rows.old rows.new }
-    ensures answer { answer_in result state.new conflict.new rows.new ≡ solve_of system.n system.m system.k equations.now inequalities.now (tables_in state.old conflict.old rows.old) }
+    ensures answer { answer_in result state.new conflict.new rows.new ≡
+        solve_of system.n system.m system.k equations.now inequalities.now (tables_in state.old conflict.old rows.old) }
 {
     if !limits::in_range(system.n, system.m, system.k) {
         return Outcome::Refused(Refusal::OutOfRange);
@@ -67,7 +68,9 @@ pub fn solve(
     tightened: &mut [i64],
     used: &mut [u64],
 ) -> Outcome
-    ensures { answer result substitution.new marks.new back.new reasons.new conflict.new tightened.new used.new ≡ solve_of n m k equations.now inequalities.now (tables_of substitution.old marks.old back.old reasons.old conflict.old tightened.old used.old) }
+    ensures { answer result substitution.new marks.new back.new reasons.new conflict.new tightened.new used.new ≡
+        solve_of n m k equations.now inequalities.now
+        (tables_of substitution.old marks.old back.old reasons.old conflict.old tightened.old used.old) }
 {
     let system = System { n, m, k };
     let mut state = StateTables {

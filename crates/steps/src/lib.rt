@@ -35,7 +35,8 @@ fn lowest_terms(multipliers: &mut [i64], d: u64) -> u64
 // number is beyond the limit.
 pub fn reduce(row: &mut [i64], multipliers: &mut [i64], d: u64, g: u64) -> Option<u64>
     requires { (all_within row.old ≡ true) × (all_within multipliers.old ≡ true) × Divisor d × (2 ≤ g) × (g ≤ W) }
-    ensures { kept_row result row.new multipliers.new ≡ tried (all_within (listed_a g (carry row.old multipliers.old d))) (reduced g (carry row.old multipliers.old d)) }
+    ensures { kept_row result row.new multipliers.new ≡
+        tried (all_within (listed_a g (carry row.old multipliers.old d))) (reduced g (carry row.old multipliers.old d)) }
 {
     let product = d * g;
     if 268435455 < product {
@@ -56,7 +57,8 @@ pub fn correct(
 ) -> Option<u64>
     requires k_in_bounds { (k < length row.old) × (length reason.now ≡ length multipliers.old) × Divisor h × Divisor d }
     requires row_value { (all_within row.old ≡ true) × (all_within multipliers.old ≡ true) × (all_within reason.now ≡ true) }
-    ensures { kept_row result row.new multipliers.new ≡ tried (all_within (listed_d k d reason.now (carry row.old multipliers.old h))) (corrected k d reason.now (carry row.old multipliers.old h)) }
+    ensures { kept_row result row.new multipliers.new ≡
+        tried (all_within (listed_d k d reason.now (carry row.old multipliers.old h))) (corrected k d reason.now (carry row.old multipliers.old h)) }
 {
     let b = row[k];
     if b == 0 {

@@ -26,7 +26,8 @@ pub fn put_in(table: &mut [i64], count: usize, w: usize, k: usize, q: &[i64]) ->
 
 // Each row of the table added to the row as often as its number in cs says. A row with 0 there is left out.
 pub fn gather(row: &mut [i64], cs: &[i64], table: &[i64])
-    requires { (length table.now ≡ length cs.now * length row.old) × (length cs.now ≤ 33) × (all_within row.old ≡ true) × (all_within cs.now ≡ true) × (all_within table.now ≡ true) }
+    requires { (length table.now ≡ length cs.now * length row.old) × (length cs.now ≤ 33) × (all_within row.old ≡ true) ×
+        (all_within cs.now ≡ true) × (all_within table.now ≡ true) }
     ensures { row.new ≡ gathered row.old cs.now (rows_of (length row.old) (length cs.now) table.now) }
 {
     let w = row.len();

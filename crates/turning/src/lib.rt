@@ -13,7 +13,8 @@ use rules::StateTables;
 // (c) for the way back: row k gains each row i as often as q says, and q's constant. It is worked on in place: q has 0 at column k, and
 // beyond the limit the table is not asked for.
 fn way_back(table: &mut [i64], n: usize, k: usize, q: &[i64]) -> bool
-    requires { (length table.old ≡ n * suc n) × (n ≤ 32) × (k < n) × (length q.now ≡ suc n) × (all_within table.old ≡ true) × (all_within q.now ≡ true) × (at q.now k ≡ pos 0) }
+    requires { (length table.old ≡ n * suc n) × (n ≤ 32) × (k < n) × (length q.now ≡ suc n) × (all_within table.old ≡ true) ×
+        (all_within q.now ≡ true) × (at q.now k ≡ pos 0) }
     ensures { tried result (rows_of (suc n) n table.new) ≡ return_of n k q.now table.old }
 {
     let w = n + 1;
