@@ -24,6 +24,8 @@ import generate
 FIXED_SEED = 20_260
 SYSTEMS, LARGE_SYSTEMS, TEXTS = 10_000, 60, 4_000
 FUNCTIONS = ("plassobine_solve", "plassobine_check", "plassobine_read")
+# What the header says that the archive needs from outside.
+NEEDED = {"memcpy", "memset"}
 KINDS = {
     "open": 0, "equation conflict": 1, "one-row conflict": 2, "two-row conflict": 3, "refusal": 4,
     "no": 0, "yes": 1, "system": 0,
@@ -65,6 +67,12 @@ class Lent:
 def filled(kind, length):
     """That many numbers to be written over."""
     return [SENTINELS[kind]] * length
+
+
+def needed(archive):
+    """The names that the archive needs from outside, as nm lists them: U and the name."""
+    listed = subprocess.run(["nm", "-u", archive], check=True, capture_output=True, text=True).stdout
+    return {line.split()[1] for line in listed.splitlines() if line.split()[:1] == ["U"]}
 
 
 def load(archive, directory):
@@ -277,6 +285,9 @@ def main(arguments):
     seeds = [int(arguments[1])] if len(arguments) == 2 else [FIXED_SEED, int.from_bytes(os.urandom(4), "big")]
     # first of all, so that the seeds are known even if a call should crash
     print("seeds: %s" % ", ".join(map(str, seeds)), flush=True)
+    if needed(arguments[0]) != NEEDED:
+        print("DIFFERENCE: the archive needs %s, and not %s" % (sorted(needed(arguments[0])), sorted(NEEDED)))
+        return 1
     with concurrent.futures.ProcessPoolExecutor() as workers:
         try:
             for lines in workers.map(compare_seed, [arguments[0]] * len(seeds), seeds):

@@ -84,7 +84,7 @@ pub fn in_order(
             }
             Working::Unmet { d, steps: done } => {
                 let of_row = &mut multipliers[b..b + m];
-                conflict[..m].copy_from_slice(of_row);
+                copying::copy(&mut conflict[..m], of_row);
                 conflict[m] = whole::signed(d);
                 return Ran::Conflict {
                     row: j + 1,

@@ -3,12 +3,14 @@
 
 ghost use Rattle.std.specs.Prelude.{◌≡◌, length, replicate};
 
-// The values of one table into another.
+// The values of one table into another. (std's method would do, but the archive for other languages would then ask for memmove.)
 pub fn copy<T: Copy>(into: &mut [T], from: &[T])
     requires { length into.old ≡ length from.now }
     ensures { into.new ≡ from.now }
 {
-    into.copy_from_slice(from);
+    for (i, x) in from.iter().enumerate() {
+        into[i] = *x;
+    }
 }
 
 // One value all over a table.

@@ -25,7 +25,7 @@ fn eliminate_in(
     ensures run { EliminatedAs result n m equations.now state.new conflict.new }
     ensures same { SameTables state.old state.new × SameLengths state.old state.new }
 {
-    work.rows.copy_from_slice(equations);
+    copying::copy(work.rows, equations);
     filling::units(work.multipliers, m, m);
     work.divisors.fill(1);
     filling::begin(state, n);

@@ -35,11 +35,11 @@ returns-in-Unmet-clause-run c =
     let inside = multipliers-inside g c.loop-j-test.true in
     let kept = rw (rest-lent (j * m) c.loop-j.multipliers) at c.from_row-found.auto.multipliers in
     let row = rest_back (j * m) c.loop-j.multipliers multipliers (omega (arith, inside)) in
-    let copied = rw (add-sub_cancel_left (j * m) m, row) at c.copy_from_slice.ensures.after in
+    let copied = rw (add-sub_cancel_left (j * m) m, row) at c.copy.ensures in
     let long = length-take-le m multipliers (omega (arith, inside, kept, length-drop (j * m) c.loop-j.multipliers)) in
     let last : to_z w64 (of_z w64 c.signed.result) ≡ pos c.in-Unmet.d = search rules in
     let noted =
-    conflict-noted m c.copy_from_slice.new.self c.loop-j.conflict (pos c.in-Unmet.d) (ap length copied ∙ long)
+    conflict-noted m c.copy.new.into c.loop-j.conflict (pos c.in-Unmet.d) (ap length copied ∙ long)
     (c.loop-j.auto.conflict ∙ c.requires.divisors_len.1) in
     rw (last, noted.0, noted.1, copied, add-one j) (answered g c.loop-j-test.true (unmet (take m multipliers) c.in-Unmet.d c.in-Unmet.done) told)
 

@@ -15,9 +15,9 @@ in_order-requires-clause-ready c =
     let divisors : c.fill.new.self ≡ replicate m 1 = search rules in
     let marks = c.begin.ensures.marks ∙ ap (λ (k : ℕ). replicate k 1) r.lent.0.marks in
     let reasons = c.begin.ensures.reasons ∙ ap (λ (k : ℕ). replicate k (pos 0)) r.lent.0.reasons in (
-      working-from n m e c.copy_from_slice.new.self c.units.new.table c.fill.new.self c.copy_from_slice.ensures.after c.units.ensures divisors
+      working-from n m e c.copy.new.into c.units.new.table c.fill.new.self c.copy.ensures c.units.ensures divisors
           r.le_n.3 r.le_n.4,
-      results-from n m e c.copy_from_slice.new.self c.units.new.table c.fill.new.self c.copy_from_slice.ensures.after c.units.ensures divisors
+      results-from n m e c.copy.new.into c.units.new.table c.fill.new.self c.copy.ensures c.units.ensures divisors
           state.substitution.now state.marks.now state.way_back.now state.reasons.now c.begin.ensures.substitution marks c.begin.ensures.way_back
           reasons (r.le_n.0, r.le_n.1, r.le_n.2),
     )
@@ -33,7 +33,7 @@ returns-in-Finished-clause-run c =
     let marks = c.begin.ensures.marks ∙ ap (λ (k : ℕ). replicate k 1) l.marks in
     let reasons = c.begin.ensures.reasons ∙ ap (λ (k : ℕ). replicate k (pos 0)) l.reasons in
     let from =
-    run-from n m e c.copy_from_slice.new.self c.units.new.table c.fill.new.self c.copy_from_slice.ensures.after c.units.ensures divisors
+    run-from n m e c.copy.new.into c.units.new.table c.fill.new.self c.copy.ensures c.units.ensures divisors
     state.substitution.now state.marks.now state.way_back.now state.reasons.now c.begin.ensures.substitution marks
     c.begin.ensures.way_back reasons in
     let s = c.in_order.ensures.same.1 in
@@ -65,7 +65,7 @@ returns-in-Conflict-clause-run c =
     let marks = c.begin.ensures.marks ∙ ap (λ (k : ℕ). replicate k 1) l.marks in
     let reasons = c.begin.ensures.reasons ∙ ap (λ (k : ℕ). replicate k (pos 0)) l.reasons in
     let from =
-    run-from n m e c.copy_from_slice.new.self c.units.new.table c.fill.new.self c.copy_from_slice.ensures.after c.units.ensures divisors
+    run-from n m e c.copy.new.into c.units.new.table c.fill.new.self c.copy.ensures c.units.ensures divisors
     state.substitution.now state.marks.now state.way_back.now state.reasons.now c.begin.ensures.substitution marks
     c.begin.ensures.way_back reasons in
     let s = c.in_order.ensures.same.1 in
@@ -101,7 +101,7 @@ returns-in-Grown-clause-run c =
     let marks = c.begin.ensures.marks ∙ ap (λ (k : ℕ). replicate k 1) l.marks in
     let reasons = c.begin.ensures.reasons ∙ ap (λ (k : ℕ). replicate k (pos 0)) l.reasons in
     let from =
-    run-from n m e c.copy_from_slice.new.self c.units.new.table c.fill.new.self c.copy_from_slice.ensures.after c.units.ensures divisors
+    run-from n m e c.copy.new.into c.units.new.table c.fill.new.self c.copy.ensures c.units.ensures divisors
     state.substitution.now state.marks.now state.way_back.now state.reasons.now c.begin.ensures.substitution marks
     c.begin.ensures.way_back reasons in
     let s = c.in_order.ensures.same.1 in
