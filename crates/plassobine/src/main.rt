@@ -32,7 +32,20 @@ fn room<const N: usize>() -> [u8; N]
     [0; N]
 }
 
-// The reply to a text. One byte more than the longest text is kept, so that a longer one is seen.
+// The reply to a text, written. The page is made where the text is known: a function has the room of its tables from its beginning on, and this
+// takes that in which the rest of a longer text was read.
+fn reply<W: Write>(writer: &mut W, text: &[u8]) -> Result<(), Failure>
+    ensures { OnOk result (Appends (W.contents writer.old) (W.contents writer.new) (program text.now)) }
+{
+    let mut page = room::<98304>();
+    let size = answering::answer(text, &mut page);
+    if writer.write_all(&page[..size]).is_err() {
+        return Err(Failure::Writing);
+    }
+    Ok(())
+}
+
+// The reply to what is read. One byte more than the longest text is kept, so that a longer one is seen.
 fn run<R: Read, W: Write>(reader: &mut R, writer: &mut W) -> Result<(), Failure>
     ensures { OnOk result (IfSome (R.remaining reader.old) (λ input. Appends (W.contents writer.old) (W.contents writer.new) (program input))) }
 {
@@ -40,12 +53,7 @@ fn run<R: Read, W: Write>(reader: &mut R, writer: &mut W) -> Result<(), Failure>
     let Ok(count) = streams::read_text(reader, &mut text) else {
         return Err(Failure::Reading);
     };
-    let mut page = room::<98304>();
-    let size = answering::answer(&text[..count], &mut page);
-    if writer.write_all(&page[..size]).is_err() {
-        return Err(Failure::Writing);
-    }
-    Ok(())
+    reply(writer, &text[..count])
 }
 
 fn main(rt: HostRuntime) {

@@ -1,11 +1,10 @@
--- `run` meets its contract: the page holds the whole reply to what was read, and all of it is written.
-use Rattle.std.proofs.Common.{rules, ◌≡◌, ◌≤◌, ℕ, List, length, take, arith, sym, ap, ◌∙◌, subst}
-use Rattle.std.specs.Prelude.{Option, None, Some, IfSome}
+-- `run` meets its contract: what is written is the reply to what was read.
+use Rattle.std.proofs.Common.{rules, ◌≡◌, ℕ, List, length, take, ap, ◌∙◌, subst}
+use Rattle.std.specs.Prelude.{Option, None, Some, IfSome, Result, Ok, Err, OnOk}
 use Rattle.std.specs.Io.KnownBytes.{Appends}
-use Rattle.std.proofs.Math.Seq.{length-take-le}
 use Rattle.streams.specs.Read.{Holds}
 use Rattle.matrix.specs.Program.{program}
-use Rattle.matrix.proofs.Replies.{reply-whole, program-front}
+use Rattle.matrix.proofs.Replies.{program-front}
 use Rattle.plassobine.proofs.run.Goals as goal
 
 -- what holds of the reply to what lies in the room holds of the reply to the text
@@ -14,17 +13,14 @@ replied : (A : List ℕ → Type 0) (text : Option (List ℕ)) (room : List ℕ)
 replied A None room count l h a = tt
 replied A (Some input) room count l h a = subst A (ap program (h.front ∙ ap (λ n. take n input) l) ∙ program-front input) a
 
-pub slice_bounds-page-end : goal.slice_bounds-page-end
-slice_bounds-page-end g c = (reply-whole _ _ _ _ (omega (arith, c.room-page.ensures)) c.answer-size.ensures).1
-
-pub slice_bounds-write_all-end : goal.slice_bounds-write_all-end
-slice_bounds-write_all-end g c =
-    let within : c.answer-size.result ≤ length c.answer-size.new.page = (reply-whole _ _ _ _ (omega (arith, c.room-page.ensures)) c.answer-size.ensures).1 in
-    sym (length-take-le c.answer-size.result c.answer-size.new.page within)
+-- and where it is not known whether all was written, once it was
+where_written : {E X : Type 0} {P Q : Type 0} (r : Result X E) → (P → Q) → OnOk r P → OnOk r Q
+where_written (Ok x) f p = f p
+where_written (Err e) f p = p
 
 pub returns : goal.returns
 returns g c =
-    let written : List ℕ → Type 0 = Appends (g.W.Write.contents c.args.writer.now) (g.W.Write.contents c.write_all.new.self) in
-    let whole = (reply-whole _ _ _ _ (omega (arith, c.room-page.ensures)) c.answer-size.ensures).0 in
-    let bytes : written (take c.answer-size.result c.answer-size.new.page) = search rules in
-    replied written (g.R.Read.remaining c.args.reader.now) c.read_text.new.room c.in-Ok.count (search rules) c.in-Ok.ensures (subst written whole bytes)
+    let written : List ℕ → Type 0 = Appends (g.W.Write.contents c.args.writer.now) (g.W.Write.contents c.reply.new.writer) in
+    where_written c.reply.result
+    (replied written (g.R.Read.remaining c.args.reader.now) c.read_text.new.room c.in-Ok.count (search rules) c.in-Ok.ensures)
+    c.reply.ensures
