@@ -8,19 +8,31 @@ ghost use Rattle.rules.specs.Numbers.{table_number, of_refusal, of_outcome, of_v
 use rules::{Outcome, Refusal, System, Table};
 use std::marker::Model;
 
-// What a refusal carries: its number, then its fields.
-#[derive(Drop)]
+// What a refusal carries: its number, then its fields, and zeros behind.
+#[derive(Clone, Copy)]
 pub struct Carried {
     numbers: [usize; 4],
     count: usize,
 }
 
 impl Model for Carried {
+    ghost use Rattle.std.specs.Prelude.{◌≡◌, ◌≤◌, ◌-◌, ◌++◌, ℕ, List, length, take, drop, replicate};
+    ghost use Rattle.std.proofs.Common.{ap, sym, ◌∙◌, take-append-drop, length-take-le};
+
     ghost Value = { List ℕ };
 
     ghost view = { λ carried. take carried.count carried.numbers };
 
-    ghost invariant = { λ carried. carried.count ≤ 4 };
+    ghost invariant = { λ carried. (carried.count ≤ length carried.numbers) × (length carried.numbers ≡ 4) ×
+        (drop carried.count carried.numbers ≡ replicate (4 - carried.count) 0) };
+
+    ghost inverse = { λ l. record { numbers = l ++ replicate (4 - length l) 0; count = length l } };
+
+    ghost inverse_ok = { λ carried holds i.
+        let counted = length-take-le carried.count carried.numbers holds.0 in
+        let behind = ap (λ k. replicate (4 - k) 0) counted ∙ sym holds.2 in
+        let whole = ap (λ l. take carried.count carried.numbers ++ l) behind ∙ take-append-drop carried.count carried.numbers in
+        record { numbers = whole i; count = counted i } };
 }
 
 impl Carried {

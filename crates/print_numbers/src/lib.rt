@@ -68,6 +68,13 @@ impl Page<'_> {
         self.put_byte(b' ');
         self.put_number(x as u64);
     }
+
+    pub fn put_two_fields(&mut self, x: usize, y: usize)
+        ensures { Prints self.old self.new (spaced_fields (x ∷ y ∷ [])) }
+    {
+        self.put_field(x);
+        self.put_field(y);
+    }
 }
 
 // Whether z, or its opposite, is below 0.
