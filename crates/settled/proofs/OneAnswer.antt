@@ -9,12 +9,14 @@ use Rattle.std.specs.Prelude.{Bool, Result}
 use Rattle.rules.specs.declared.Refusal.{Refusal}
 use Rattle.rules.specs.Outcomes.{Results, Answer, solve}
 use Rattle.rules.specs.Checker.{check}
-use Rattle.solver.specs.Answered.{answer}
+use Rattle.solver.specs.Answered.{answer, answer_in, tables_in}
 use Rattle.matrix.specs.Poured.{Page, page, written}
 use Rattle.matrix.specs.Reader.{Read, reply, read}
 use Rattle.matrix.specs.Program.{program}
 use Rattle.exports.specs.Numbered.{Returned, returned, solved, checked, read_into}
 use Rattle.rules.specs.declared.System.{System}
+use Rattle.rules.specs.declared.StateTables.{StateTables}
+use Rattle.rules.specs.declared.RowTables.{RowTables}
 
 -- what two equal records hold
 abbrev shown : {A B : Type 0} (field : A → B) {first second value : A} → first ≡ value → second ≡ value → field first ≡ field second
@@ -27,6 +29,14 @@ answer_of r t = answer r t.substitution t.marks t.way_back t.reasons t.conflict 
 pub one-solve : (n m k : ℕ) (equations inequalities : List ℤ) (given : Results) (r r' : Outcome) (t t' : Results)
     → answer_of r t ≡ solve n m k equations inequalities given → answer_of r' t' ≡ solve n m k equations inequalities given → (r ≡ r') × (t ≡ t')
 one-solve n m k equations inequalities given r r' t t' p q = (shown (λ (a : Answer). a.outcome) p q, shown (λ (a : Answer). a.results) p q)
+
+-- ---- solver::solve_in, which the program calls: the same, of tables that are lent in two values and one
+pub one-solve-in : (n m k : ℕ) (equations inequalities : List ℤ) (given : Results) (r r' : Outcome) (state state' : StateTables)
+    (conflict conflict' : List ℤ) (rows rows' : RowTables) → answer_in r state conflict rows ≡ solve n m k equations inequalities given
+    → answer_in r' state' conflict' rows' ≡ solve n m k equations inequalities given
+    → (r ≡ r') × (tables_in state conflict rows ≡ tables_in state' conflict' rows')
+one-solve-in n m k equations inequalities given r r' state state' conflict conflict' rows rows' p q =
+    one-solve n m k equations inequalities given r r' (tables_in state conflict rows) (tables_in state' conflict' rows') p q
 
 -- ---- checker::check
 pub one-check : (n m : ℕ) (equations table : List ℤ) (r r' : Result Bool Refusal) → r ≡ check n m equations table → r' ≡ check n m equations table → r ≡ r'
