@@ -1,5 +1,5 @@
 -- `reply` meets its contract: the page holds the whole reply to the text, and all of it is written.
-use Rattle.std.proofs.Common.{rules, ◌≡◌, ◌≤◌, ℕ, List, length, take, arith, sym, subst}
+use Rattle.std.proofs.Common.{rules, ◌≤◌, ℕ, List, length, take, arith, sym, subst}
 use Rattle.std.specs.Io.KnownBytes.{Appends}
 use Rattle.std.proofs.Math.Seq.{length-take-le}
 use Rattle.matrix.proofs.Replies.{reply-whole}

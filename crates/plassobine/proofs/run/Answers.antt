@@ -1,7 +1,8 @@
 -- `run` meets its contract: what is written is the reply to what was read.
 use Rattle.std.proofs.Common.{rules, ◌≡◌, ℕ, List, length, take, ap, ◌∙◌, subst}
-use Rattle.std.specs.Prelude.{Option, None, Some, IfSome, Result, Ok, Err, OnOk}
+use Rattle.std.specs.Prelude.{Option, None, Some, IfSome}
 use Rattle.std.specs.Io.KnownBytes.{Appends}
+use Rattle.std.proofs.lemmas.Result.{on_ok_weaker}
 use Rattle.streams.specs.Read.{Holds}
 use Rattle.matrix.specs.Program.{program}
 use Rattle.matrix.proofs.Replies.{program-front}
@@ -13,14 +14,9 @@ replied : (A : List ℕ → Type 0) (text : Option (List ℕ)) (room : List ℕ)
 replied A None room count l h a = tt
 replied A (Some input) room count l h a = subst A (ap program (h.front ∙ ap (λ n. take n input) l) ∙ program-front input) a
 
--- and where it is not known whether all was written, once it was
-where_written : {E X : Type 0} {P Q : Type 0} (r : Result X E) → (P → Q) → OnOk r P → OnOk r Q
-where_written (Ok x) f p = f p
-where_written (Err e) f p = p
-
 pub returns : goal.returns
 returns g c =
     let written : List ℕ → Type 0 = Appends (g.W.Write.contents c.args.writer.now) (g.W.Write.contents c.reply.new.writer) in
-    where_written c.reply.result
+    on_ok_weaker c.reply.result
     (replied written (g.R.Read.remaining c.args.reader.now) c.read_text.new.room c.in-Ok.count (search rules) c.in-Ok.ensures)
     c.reply.ensures
