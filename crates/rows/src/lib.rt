@@ -20,7 +20,12 @@ pub fn gcd_of(row: &[i64]) -> u64
 pub fn first_beyond(row: &[i64]) -> Option<usize>
     ensures { result ≡ found (length row.now) (first_beyond row.now) }
 {
-    row.iter().position(|z| !whole::within(*z))
+    for (i, z) in row.iter().enumerate() {
+        if !whole::within(*z) {
+            return Some(i);
+        }
+    }
+    None
 }
 
 // Whether all numbers of the row are within the limit.
